@@ -1,0 +1,9 @@
+//! Names, literals and tagged literals.
+#![tactic(auto)]
+
+mod literal;
+mod name;
+
+pub use dl_base::Memory;
+pub use literal::{Family, Literal, Tag, Tagged};
+pub use name::{Name, NameStop, begins_name, continues_name};
