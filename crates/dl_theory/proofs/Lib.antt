@@ -1,0 +1,12 @@
+pub mod Within
+pub mod Clashes
+pub mod Steps
+pub mod Deciding
+pub mod Finite
+pub mod Closure
+pub mod WellFormed
+pub mod Decided
+pub mod Examples
+pub mod Inclusions
+pub mod Consistency
+pub mod Unmentioned

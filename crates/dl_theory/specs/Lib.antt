@@ -1,0 +1,10 @@
+pub mod Lists
+pub mod Conditions
+pub mod Derivations
+pub mod Listings
+pub mod Verdicts
+pub mod Edits
+pub mod Cones
+pub mod Laws
+pub mod Kept
+pub mod Tests
