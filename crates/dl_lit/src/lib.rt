@@ -3,6 +3,7 @@
 
 mod literal;
 mod name;
+mod text;
 
 pub use dl_base::Memory;
 pub use literal::{Family, Literal, Tag, Tagged};

@@ -5,6 +5,7 @@ ghost use Rattle.std.specs.List.{list_all};
 ghost use Rattle.dl_lit.specs.Name.{begins_name, continues_name, is_name};
 ghost use Rattle.dl_lit.specs.declared.name.NameStop.TheVariants.{Spelling};
 
+use crate::text::Text;
 use dl_base::Memory;
 use std::alloc::Global;
 use std::cmp::Ordering;
@@ -21,18 +22,19 @@ pub enum NameStop {
 /// A letter or `_`, and then letters, `_` and digits.
 #[derive(Drop)]
 pub struct Name {
-    text: Vec<u8>,
+    text: Text,
 }
 
 impl Model for Name {
     ghost use Rattle.std.specs.Prelude.{IsTrue, List, ℕ};
     ghost use Rattle.dl_lit.specs.Name.{is_name};
+    ghost use Rattle.dl_lit.specs.Text.{text_bytes};
 
     ghost Value = { List ℕ };
 
-    ghost view = { λ n. n.text.items };
+    ghost view = { λ n. text_bytes n.text };
 
-    ghost invariant = { λ n. IsTrue (is_name n.text.items) };
+    ghost invariant = { λ n. IsTrue (is_name (text_bytes n.text)) };
 }
 
 impl Name {
@@ -45,9 +47,9 @@ impl Name {
         if !is_name(bytes) {
             return Err(NameStop::Spelling);
         }
-        match Vec::from_slice(alloc, bytes) {
+        match Text::make(alloc, bytes) {
             Ok(text) => Ok(Name { text }),
-            Err(_) => Err(NameStop::Memory),
+            Err(Memory) => Err(NameStop::Memory),
         }
     }
 
@@ -56,7 +58,7 @@ impl Name {
         requires { IsTrue (is_name bytes.now) }
         ensures { IfOk result (λ name. name ≡ bytes.now) }
     {
-        let text = Vec::from_slice(alloc, bytes)?;
+        let text = Text::make(alloc, bytes)?;
         Ok(Name { text })
     }
 
@@ -70,7 +72,7 @@ impl Name {
     pub fn copy(&self) -> Result<Name, Memory>
         ensures { IfOk result (λ copy. copy ≡ self.now) }
     {
-        let text = self.text.clone()?;
+        let text = self.text.copy()?;
         Ok(Name { text })
     }
 }
@@ -85,7 +87,7 @@ impl PartialEq for Name {
     ghost laws = { Prim.search (comparing, rules) };
 
     fn eq(&self, other: &Name) -> bool {
-        self.text == other.text
+        self.bytes() == other.bytes()
     }
 }
 
@@ -105,7 +107,7 @@ impl Hash for Name {
     ghost respects_eq = { name_hashes };
 
     fn hash<H: Hasher>(&self, state: &mut H) {
-        self.text.hash(state);
+        self.bytes().hash(state);
     }
 }
 
@@ -140,7 +142,7 @@ impl Ord for Name {
     ghost matches_eq = { texts_ties };
 
     fn cmp(&self, other: &Name) -> Ordering {
-        self.text.cmp(&other.text)
+        self.bytes().cmp(other.bytes())
     }
 }
 
