@@ -1,0 +1,44 @@
+-- A file that is to be a theory.
+use Rattle.std.specs.Prelude.{ℕ, ◌<◌, ◌≤◌, List, ◌++◌, ◌∷◌, [], length, codes, decimal}
+use Rattle.dl_theory.specs.Lists.{TheoryLists}
+use Rattle.dl_read.specs.declared.file.ReadStop.TheVariants as stop
+use Rattle.dl_read.specs.Files.{Loads, IsReadStop}
+use Rattle.ddl.specs.Refusals.{refusal_text}
+use Rattle.ddl.specs.declared.refusal.Refusal.{Refusal}
+use Rattle.ddl.specs.declared.refusal.Refusal.TheVariants as refusal
+
+-- the largest file that is read
+abbrev pub limit : ℕ
+limit = 67108864
+
+-- the bytes are a theory of a size that is read
+abbrev pub IsTheoryFile : List ℕ → TheoryLists → Type 0
+IsTheoryFile bytes T = (length bytes ≤ limit) × Loads bytes T
+
+-- why bytes of any size are no theory
+abbrev pub IsLineRefusal : List ℕ → Refusal → Type 0
+IsLineRefusal bytes refusal.Size = ⊥
+IsLineRefusal bytes (refusal.Form line) = IsReadStop bytes (stop.BadLine line)
+IsLineRefusal bytes (refusal.Variables line) = IsReadStop bytes (stop.Variables line)
+IsLineRefusal bytes (refusal.Edit line x) = IsReadStop bytes (stop.Edit line x)
+
+-- why a file is refused
+abbrev pub IsRefusal : List ℕ → Refusal → Type 0
+IsRefusal bytes refusal.Size = limit < length bytes
+IsRefusal bytes (refusal.Form line) = (length bytes ≤ limit) × IsLineRefusal bytes (refusal.Form line)
+IsRefusal bytes (refusal.Variables line) = (length bytes ≤ limit) × IsLineRefusal bytes (refusal.Variables line)
+IsRefusal bytes (refusal.Edit line x) = (length bytes ≤ limit) × IsLineRefusal bytes (refusal.Edit line x)
+
+-- `line K ` and what is wrong with it
+abbrev pub line_text : ℕ → List ℕ → List ℕ
+line_text line words = codes "line " ++ (decimal line ++ (32 ∷ words))
+
+abbrev pub refusal_words : Refusal → List ℕ
+refusal_words refusal.Size = codes "size"
+refusal_words (refusal.Form line) = line_text line (codes "form")
+refusal_words (refusal.Variables line) = line_text line (codes "variables")
+refusal_words (refusal.Edit line x) = line_text line (refusal_text x)
+
+-- the line that is printed
+abbrev pub refused_line : Refusal → List ℕ
+refused_line x = codes "refused " ++ (refusal_words x ++ (10 ∷ []))

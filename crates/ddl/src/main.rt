@@ -1,0 +1,12 @@
+//! t
+#![tactic(auto)]
+
+mod conclusion;
+mod refusal;
+mod status;
+mod whole;
+mod words;
+pub use status::Status;
+pub use words::{Command, command_of};
+
+fn main(rt: HostRuntime) {}

@@ -1,0 +1,20 @@
+//! How the program ends.
+
+/// The exit statuses 0 to 6, in this order.
+#[derive(Clone, Copy, Debug, PartialEq, Eq)]
+pub enum Status {
+    /// The words were answered.
+    Done,
+    /// A file is too large, or does not load as a theory.
+    Refused,
+    /// The words have no form that the program knows.
+    Usage,
+    /// There was no memory.
+    Memory,
+    /// The outside failed.
+    Fault,
+    /// A certificate was not accepted.
+    Rejected,
+    /// A session read all that it may.
+    Spent,
+}
