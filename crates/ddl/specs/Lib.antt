@@ -1,6 +1,6 @@
 pub mod Words
 pub mod Whole
-pub mod Refusals
 pub mod Theories
 pub mod Conclusions
+pub mod Replies
 pub mod Run

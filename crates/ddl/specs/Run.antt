@@ -1,5 +1,5 @@
 -- What a run of the program is.
-use Rattle.std.specs.Prelude.{◌≡◌, ◌⊎◌, ℕ, Bool, List, [], ◌∷◌, ◌++◌, Option, None, Some, IsTrue, codes}
+use Rattle.std.specs.Prelude.{◌≡◌, ◌⊎◌, ℕ, Bool, List, [], ◌∷◌, ◌++◌, Option, None, Some, IsTrue}
 use Rattle.dl_lit.specs.declared.literal.Family.{Family}
 use Rattle.dl_io.specs.Outside.{Rose, at_name}
 use Rattle.dl_io.specs.Streams.{IsFront}
@@ -13,14 +13,12 @@ use Rattle.ddl.specs.declared.conclusion.Conclusion.{Conclusion}
 use Rattle.ddl.specs.Words.{Form, Conclude, Print, form, file_of}
 use Rattle.ddl.specs.Theories.{IsTheoryFile, IsRefusal, refused_line}
 use Rattle.ddl.specs.Conclusions.{AreConclusions, conclusions_text}
+use Rattle.ddl.specs.Replies.{usage_line}
 
 -- what stands on standard output, and the status
 pub record Outcome : Type 0 where
   pub status : Status
   pub text : List ℕ
-
-abbrev pub usage_line : List ℕ
-usage_line = codes "usage: ddl conclude F FILE, print FILE, check THEORY CERT, gen N SIZE, serve THEORY NAME [NAME ...]\n"
 
 -- What the program says, by the form of its words and what the files hold. A refusal may show one of several paths.
 pub data Shows (holds : List ℕ → Option (List ℕ)) : Option Form → Outcome → Type 0 where

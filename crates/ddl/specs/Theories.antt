@@ -3,7 +3,7 @@ use Rattle.std.specs.Prelude.{ℕ, ◌<◌, ◌≤◌, List, ◌++◌, ◌∷◌
 use Rattle.dl_theory.specs.Lists.{TheoryLists}
 use Rattle.dl_read.specs.declared.file.ReadStop.TheVariants as stop
 use Rattle.dl_read.specs.Files.{Loads, IsReadStop}
-use Rattle.ddl.specs.Refusals.{refusal_text}
+use Rattle.dl_print.specs.Text.{refusal_text}
 use Rattle.ddl.specs.declared.refusal.Refusal.{Refusal}
 use Rattle.ddl.specs.declared.refusal.Refusal.TheVariants as refusal
 
@@ -29,9 +29,13 @@ IsRefusal bytes (refusal.Form line) = (length bytes ≤ limit) × IsLineRefusal 
 IsRefusal bytes (refusal.Variables line) = (length bytes ≤ limit) × IsLineRefusal bytes (refusal.Variables line)
 IsRefusal bytes (refusal.Edit line x) = (length bytes ≤ limit) × IsLineRefusal bytes (refusal.Edit line x)
 
--- `line K ` and what is wrong with it
+-- `line K `
+abbrev pub line_front : ℕ → List ℕ
+line_front line = codes "line " ++ (decimal line ++ 32 ∷ [])
+
+-- and what is wrong with it
 abbrev pub line_text : ℕ → List ℕ → List ℕ
-line_text line words = codes "line " ++ (decimal line ++ (32 ∷ words))
+line_text line words = line_front line ++ words
 
 abbrev pub refusal_words : Refusal → List ℕ
 refusal_words refusal.Size = codes "size"

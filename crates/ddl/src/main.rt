@@ -2,10 +2,13 @@
 #![tactic(auto)]
 
 mod conclusion;
+mod print;
 mod refusal;
+mod reply;
 mod status;
 mod whole;
 mod words;
+
 pub use status::Status;
 pub use words::{Command, command_of};
 

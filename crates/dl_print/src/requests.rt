@@ -28,7 +28,7 @@ fn plus_byte(plus: bool) -> u8
     if plus { b'+' } else { b'-' }
 }
 
-fn family_letter(family: Family) -> u8
+pub(crate) fn family_letter(family: Family) -> u8
     ensures { result ≡ family_letter family }
 {
     match family {

@@ -1,0 +1,120 @@
+//! Replies, written to a sink piece by piece.
+
+ghost use Rattle.std.specs.Prelude.{◌≡◌};
+ghost use Rattle.dl_io.specs.Outside.{HasCause};
+ghost use Rattle.dl_io.specs.Streams.{WritesAll};
+ghost use Rattle.dl_print.specs.Text.{refusal_text};
+ghost use Rattle.ddl.specs.Theories.{line_front, line_text, refusal_words, refused_line};
+ghost use Rattle.ddl.specs.Conclusions.{conclusion_line, conclusions_text};
+ghost use Rattle.ddl.specs.Replies.{usage_line, reply_text};
+
+use crate::conclusion::Conclusion;
+use crate::refusal::Refusal;
+use crate::reply::Reply;
+use dl_io::{Failed, Sink, write_all};
+use dl_lit::Family;
+use dl_print::{write_conclusion, write_number, write_refusal, write_theory};
+use dl_theory::EditRefusal;
+
+const USAGE: &[u8] =
+    b"usage: ddl conclude F FILE, print FILE, check THEORY CERT, gen N SIZE, serve THEORY NAME [NAME ...]\n";
+
+fn write_line_front<S: Sink>(sink: &mut S, line: u64) -> Result<(), Failed>
+    ensures bytes { WritesAll (S.written sink.old) (S.written sink.new) result (line_front line) }
+    ensures cause { HasCause (S.faults sink.old) (S.faults sink.new) result }
+    ensures name { S.name sink.new ≡ S.name sink.old }
+{
+    write_all(sink, b"line ")?;
+    write_number(sink, line)?;
+    write_all(sink, b" ")
+}
+
+fn write_bad_line<S: Sink>(sink: &mut S, line: u64, words: &[u8]) -> Result<(), Failed>
+    ensures bytes { WritesAll (S.written sink.old) (S.written sink.new) result (line_text line words.now) }
+    ensures cause { HasCause (S.faults sink.old) (S.faults sink.new) result }
+    ensures name { S.name sink.new ≡ S.name sink.old }
+{
+    write_line_front(sink, line)?;
+    write_all(sink, words)
+}
+
+fn write_bad_edit<S: Sink>(sink: &mut S, line: u64, refusal: &EditRefusal) -> Result<(), Failed>
+    ensures bytes { WritesAll (S.written sink.old) (S.written sink.new) result (line_text line (refusal_text refusal.now)) }
+    ensures cause { HasCause (S.faults sink.old) (S.faults sink.new) result }
+    ensures name { S.name sink.new ≡ S.name sink.old }
+{
+    write_line_front(sink, line)?;
+    write_refusal(sink, refusal)
+}
+
+fn write_words<S: Sink>(sink: &mut S, refusal: &Refusal) -> Result<(), Failed>
+    ensures bytes { WritesAll (S.written sink.old) (S.written sink.new) result (refusal_words refusal.now) }
+    ensures cause { HasCause (S.faults sink.old) (S.faults sink.new) result }
+    ensures name { S.name sink.new ≡ S.name sink.old }
+{
+    match refusal {
+        Refusal::Size => write_all(sink, b"size"),
+        Refusal::Form { line } => write_bad_line(sink, *line, b"form"),
+        Refusal::Variables { line } => write_bad_line(sink, *line, b"variables"),
+        Refusal::Edit { line, refusal } => write_bad_edit(sink, *line, refusal),
+    }
+}
+
+fn write_refused<S: Sink>(sink: &mut S, refusal: &Refusal) -> Result<(), Failed>
+    ensures bytes { WritesAll (S.written sink.old) (S.written sink.new) result (refused_line refusal.now) }
+    ensures cause { HasCause (S.faults sink.old) (S.faults sink.new) result }
+    ensures name { S.name sink.new ≡ S.name sink.old }
+{
+    write_all(sink, b"refused ")?;
+    write_words(sink, refusal)?;
+    write_all(sink, b"\n")
+}
+
+fn write_line<S: Sink>(sink: &mut S, family: Family, conclusion: &Conclusion) -> Result<(), Failed>
+    ensures bytes { WritesAll (S.written sink.old) (S.written sink.new) result (conclusion_line family conclusion.now) }
+    ensures cause { HasCause (S.faults sink.old) (S.faults sink.new) result }
+    ensures name { S.name sink.new ≡ S.name sink.old }
+{
+    write_conclusion(sink, conclusion.verdict, family, &conclusion.literal)?;
+    write_all(sink, b"\n")
+}
+
+fn write_conclusions<S: Sink>(
+    sink: &mut S,
+    family: Family,
+    conclusions: &[Conclusion],
+) -> Result<(), Failed>
+    ensures bytes { WritesAll (S.written sink.old) (S.written sink.new) result (conclusions_text family conclusions.now) }
+    ensures cause { HasCause (S.faults sink.old) (S.faults sink.new) result }
+    ensures name { S.name sink.new ≡ S.name sink.old }
+{
+    for conclusion in conclusions {
+        write_line(sink, family, conclusion)?;
+    }
+    Ok(())
+}
+
+fn write_reply<S: Sink>(sink: &mut S, reply: &Reply) -> Result<(), Failed>
+    ensures bytes { WritesAll (S.written sink.old) (S.written sink.new) result (reply_text reply.now) }
+    ensures cause { HasCause (S.faults sink.old) (S.faults sink.new) result }
+    ensures name { S.name sink.new ≡ S.name sink.old }
+{
+    match reply {
+        Reply::Usage => write_all(sink, USAGE),
+        Reply::Refused(refusal) => write_refused(sink, refusal),
+        Reply::Conclusions(family, conclusions) => write_conclusions(sink, *family, conclusions),
+        Reply::Text(theory) => write_theory(sink, theory),
+    }
+}
+
+/// Writes the reply and flushes, also where the reply was cut short.
+pub fn print<S: Sink>(sink: &mut S, reply: &Reply) -> Result<(), Failed>
+    ensures bytes { WritesAll (S.written sink.old) (S.written sink.new) result (reply_text reply.now) }
+    ensures cause { HasCause (S.faults sink.old) (S.faults sink.new) result }
+    ensures name { S.name sink.new ≡ S.name sink.old }
+{
+    let written = write_reply(sink, reply);
+    let flushed = sink.flush();
+    written?;
+    flushed
+}

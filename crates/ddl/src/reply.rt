@@ -1,0 +1,35 @@
+//! What the program says.
+
+ghost use Rattle.std.specs.Prelude.{◌≡◌};
+ghost use Rattle.ddl.specs.Replies.{reply_status};
+
+use crate::conclusion::Conclusion;
+use crate::refusal::Refusal;
+use crate::status::Status;
+use dl_lit::Family;
+use dl_theory::Theory;
+
+/// What the program says.
+#[derive(Drop)]
+pub enum Reply {
+    /// The words have no form.
+    Usage,
+    /// A file gives no theory.
+    Refused(Refusal),
+    /// The conclusions of a theory in a family.
+    Conclusions(Family, Vec<Conclusion>),
+    /// The canonical text of a theory.
+    Text(Theory),
+}
+
+/// How the program ends where it said this.
+pub fn status_of(reply: &Reply) -> Status
+    ensures { result ≡ reply_status reply.now }
+{
+    match reply {
+        Reply::Usage => Status::Usage,
+        Reply::Refused(_) => Status::Refused,
+        Reply::Conclusions(_, _) => Status::Done,
+        Reply::Text(_) => Status::Done,
+    }
+}
