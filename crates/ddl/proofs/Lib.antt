@@ -1,2 +1,4 @@
 pub mod Known
 pub mod Verdicts
+pub mod Loading
+pub mod Replies

@@ -13,12 +13,16 @@ use Rattle.ddl.specs.declared.conclusion.Conclusion.{Conclusion}
 use Rattle.ddl.specs.Words.{Form, Conclude, Print, form, file_of}
 use Rattle.ddl.specs.Theories.{IsTheoryFile, IsRefusal, refused_line}
 use Rattle.ddl.specs.Conclusions.{AreConclusions, conclusions_text}
-use Rattle.ddl.specs.Replies.{usage_line}
+use Rattle.ddl.specs.declared.reply.Reply.{Reply}
+use Rattle.ddl.specs.Replies.{usage_line, reply_status, reply_text}
 
 -- what stands on standard output, and the status
 pub record Outcome : Type 0 where
   pub status : Status
   pub text : List ℕ
+
+abbrev pub outcome_of : Reply → Outcome
+outcome_of reply = record { status = reply_status reply; text = reply_text reply }
 
 -- What the program says, by the form of its words and what the files hold. A refusal may show one of several paths.
 pub data Shows (holds : List ℕ → Option (List ℕ)) : Option Form → Outcome → Type 0 where
@@ -66,8 +70,8 @@ abbrev pub IsOutcome : List (List ℕ) → (List ℕ → Option (List ℕ)) → 
 IsOutcome words holds outcome = Shows holds (form words) outcome
 
 -- The reply is what the words ask for.
-abbrev pub IsReply : HouseState → List (List ℕ) → Status → List ℕ → Type 0
-IsReply house words ends text = (outcome : Outcome) × IsOutcome words house.holds outcome × (ends ≡ outcome.status) × (text ≡ outcome.text)
+abbrev pub IsReply : HouseState → List (List ℕ) → Reply → Type 0
+IsReply house words reply = IsOutcome words house.holds (outcome_of reply)
 
 -- a front of a text that the words ask for
 abbrev pub IsBegun : List (List ℕ) → (List ℕ → Option (List ℕ)) → List ℕ → Type 0

@@ -1,11 +1,13 @@
 -- A file that is to be a theory.
-use Rattle.std.specs.Prelude.{ℕ, ◌<◌, ◌≤◌, List, ◌++◌, ◌∷◌, [], length, codes, decimal}
+use Rattle.std.specs.Prelude.{◌≡◌, ℕ, ◌<◌, ◌≤◌, List, ◌++◌, ◌∷◌, [], length, Option, Some, codes, decimal}
 use Rattle.dl_theory.specs.Lists.{TheoryLists}
 use Rattle.dl_read.specs.declared.file.ReadStop.TheVariants as stop
 use Rattle.dl_read.specs.Files.{Loads, IsReadStop}
 use Rattle.dl_print.specs.Text.{refusal_text}
 use Rattle.ddl.specs.declared.refusal.Refusal.{Refusal}
 use Rattle.ddl.specs.declared.refusal.Refusal.TheVariants as refusal
+use Rattle.ddl.specs.declared.theory_file.Loaded.{Loaded}
+use Rattle.ddl.specs.declared.theory_file.Loaded.TheVariants as loaded
 
 -- the largest file that is read
 abbrev pub limit : ℕ
@@ -28,6 +30,15 @@ IsRefusal bytes refusal.Size = limit < length bytes
 IsRefusal bytes (refusal.Form line) = (length bytes ≤ limit) × IsLineRefusal bytes (refusal.Form line)
 IsRefusal bytes (refusal.Variables line) = (length bytes ≤ limit) × IsLineRefusal bytes (refusal.Variables line)
 IsRefusal bytes (refusal.Edit line x) = (length bytes ≤ limit) × IsLineRefusal bytes (refusal.Edit line x)
+
+-- what a file gives
+abbrev pub IsLoaded : List ℕ → Loaded → Type 0
+IsLoaded bytes (loaded.Theory T) = IsTheoryFile bytes T
+IsLoaded bytes (loaded.Refused x) = IsRefusal bytes x
+
+-- the file holds bytes that give this
+abbrev pub HoldsLoaded : Option (List ℕ) → Loaded → Type 0
+HoldsLoaded held x = (bytes : List ℕ) × (held ≡ Some bytes) × IsLoaded bytes x
 
 -- `line K `
 abbrev pub line_front : ℕ → List ℕ

@@ -13,7 +13,7 @@ pub data Form : Type 0 where
   Print : List ℕ → Form
 
 abbrev pub form_of : Command → Form
-form_of (command.Conclude f file) = Conclude f (string_bytes file.now)
+form_of (command.Conclude file) = Conclude Definite (string_bytes file.now)
 form_of (command.Print file) = Print (string_bytes file.now)
 
 -- the families whose conclusions are built

@@ -2,36 +2,36 @@
 
 ghost use Rattle.std.specs.Prelude.{◌≡◌, map, string_bytes};
 ghost use Rattle.std.specs.Option.{option_map};
-ghost use Rattle.ddl.specs.Words.{family_of, form, form_of, conclude_form};
-
-use dl_lit::Family;
+ghost use Rattle.ddl.specs.Words.{form, form_of, conclude_form, file_of};
 
 /// What the words ask for.
 #[derive(Clone, Copy)]
 pub enum Command<'a> {
-    /// The conclusions of the theory in a file, in a family.
-    Conclude(Family, &'a String),
+    /// The conclusions of the theory in a file, in the definite family.
+    Conclude(&'a String),
     /// The canonical text of the theory in a file.
     Print(&'a String),
 }
 
-fn family_of(word: &str) -> Option<Family>
-    ensures { result ≡ family_of word.now }
-{
-    match word {
-        "D" => Some(Family::Definite),
-        _ => None,
+impl<'a> Command<'a> {
+    /// The file that holds the theory.
+    pub fn file(self) -> &'a String
+        ensures { string_bytes result.now ≡ file_of (form_of self.entry) }
+    {
+        match self {
+            Command::Conclude(file) => file,
+            Command::Print(file) => file,
+        }
     }
 }
 
 fn conclude<'a>(family: &str, file: &'a String) -> Option<Command<'a>>
     ensures { option_map form_of result ≡ conclude_form family.now (string_bytes file.now) }
 {
-    let family = family_of(family)?;
-    if file.is_empty() {
-        None
+    if family == "D" && !file.is_empty() {
+        Some(Command::Conclude(file))
     } else {
-        Some(Command::Conclude(family, file))
+        None
     }
 }
 

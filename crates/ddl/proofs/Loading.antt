@@ -1,0 +1,21 @@
+-- What a file gives.
+use Rattle.std.proofs.Common.{◌≡◌, ◌≤◌, ℕ, List, length, Option, None, Some, IsSome, refl, Vec}
+use Rattle.std.specs.declared.alloc.Global.{Global}
+use Rattle.ddl.specs.declared.refusal.Refusal.{Refusal}
+use Rattle.ddl.specs.declared.refusal.Refusal.TheVariants.{Size, Form, Variables, Edit}
+use Rattle.ddl.specs.declared.theory_file.Loaded.{Loaded}
+use Rattle.ddl.specs.Theories.{limit, IsLineRefusal, IsRefusal, IsLoaded, HoldsLoaded}
+use Rattle.ddl.specs.Whole.{IsWhole}
+
+-- a refusal of a line is one of the file, where the file is not too large
+pub line_refusal : (bytes : List ℕ) (x : Refusal) → length bytes ≤ limit → IsLineRefusal bytes x → IsRefusal bytes x
+line_refusal bytes Size small h = absurd h
+line_refusal bytes (Form line) small h = (small, h)
+line_refusal bytes (Variables line) small h = (small, h)
+line_refusal bytes (Edit line refusal) small h = (small, h)
+
+-- what is said of a file that was read is said of what it holds
+pub holds_loaded : (held : Option (List ℕ)) (whole : Option (Vec ℕ Global)) (x : Loaded) → IsSome held → IsWhole limit held whole
+    → ((bytes : List ℕ) → IsWhole limit (Some bytes) whole → IsLoaded bytes x) → HoldsLoaded held x
+holds_loaded None whole x some read gives = absurd (cc)
+holds_loaded (Some bytes) whole x some read gives = (bytes, refl, gives bytes read)

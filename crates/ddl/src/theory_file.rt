@@ -1,0 +1,76 @@
+//! A theory from a file.
+
+ghost use Rattle.std.specs.Prelude.{◌≡◌, ◌≤◌, ◌∷◌, [], List, ℕ, false, length, string_bytes, IsTrue, IsSome, IfOk, Some};
+ghost use Rattle.ddl.specs.Theories.{limit, IsLoaded, HoldsLoaded};
+ghost use Rattle.ddl.specs.Run.{ReadsOnly};
+ghost use Rattle.ddl.specs.Whole.{IsWhole, HasFault};
+
+use crate::refusal::Refusal;
+use crate::whole::{Stop, read_whole};
+use dl_io::{House, OpenStop};
+use dl_lit::Memory;
+use dl_read::read_file;
+use dl_theory::Theory;
+use std::alloc::Global;
+
+const LIMIT: usize = 67_108_864;
+
+/// What a file gives.
+#[derive(Drop)]
+pub enum Loaded {
+    Theory(Theory),
+    Refused(Refusal),
+}
+
+// The theory that these bytes say.
+fn load_bytes(alloc: Global, bytes: &[u8]) -> Result<Loaded, Memory>
+    ensures { length bytes.now ≤ limit → IfOk result (IsLoaded bytes.now) }
+{
+    match read_file(alloc, bytes) {
+        Ok(theory) => Ok(Loaded::Theory(theory)),
+        Err(stop) => {
+            let refusal = Refusal::from_stop(stop)?;
+            Ok(Loaded::Refused(refusal))
+        }
+    }
+}
+
+// What a file that was read gives. `None` are more bytes than the limit.
+fn load_whole(alloc: Global, whole: &Option<Vec<u8>>) -> Result<Loaded, Memory>
+    ensures { (bytes : List ℕ) → IsWhole limit (Some bytes) whole.now → IfOk result (IsLoaded bytes) }
+{
+    match whole {
+        None => Ok(Loaded::Refused(Refusal::Size)),
+        Some(bytes) => load_bytes(alloc, bytes),
+    }
+}
+
+// The bytes of a file, or `None` where they are more than the limit. The file is settled again.
+fn read<H: House>(alloc: Global, house: &mut H, name: &String) -> Result<Option<Vec<u8>>, Stop>
+    requires { (H.state house.old).open_in (string_bytes name.now) ≡ false }
+    ensures house { ReadsOnly (H.state house.old) (H.state house.new) (string_bytes name.now ∷ []) }
+    ensures cause { HasFault (H.state house.old).faults (H.state house.new).faults result }
+    ensures whole { IfOk result (λ whole. IsWhole limit ((H.state house.old).holds (string_bytes name.now)) whole) }
+    ensures told { IsTrue H.tells → IfOk result (λ whole. IsSome ((H.state house.old).holds (string_bytes name.now))) }
+{
+    let mut source = match house.input(name) {
+        Ok(source) => source,
+        Err(OpenStop::Memory) => return Err(Stop::Memory),
+        Err(OpenStop::Failed) => return Err(Stop::Fault),
+    };
+    let whole = read_whole(alloc, &mut source, LIMIT);
+    house.settle_in(name, source);
+    whole
+}
+
+/// The theory in a file, or why there is none. The file is settled again.
+pub fn load<H: House>(alloc: Global, house: &mut H, name: &String) -> Result<Loaded, Stop>
+    requires { (H.state house.old).open_in (string_bytes name.now) ≡ false }
+    ensures house { ReadsOnly (H.state house.old) (H.state house.new) (string_bytes name.now ∷ []) }
+    ensures cause { HasFault (H.state house.old).faults (H.state house.new).faults result }
+    ensures loaded { IsTrue H.tells → IfOk result (HoldsLoaded ((H.state house.old).holds (string_bytes name.now))) }
+{
+    let whole = read(alloc, house, name)?;
+    let loaded = load_whole(alloc, &whole)?;
+    Ok(loaded)
+}
