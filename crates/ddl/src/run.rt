@@ -19,6 +19,8 @@ use dl_io::{Failed, House, OpenStop};
 use dl_lit::{Family, Memory};
 use dl_theory::Theory;
 use std::alloc::Global;
+use std::sync::Wait;
+use std::thread::Threads;
 
 // What a command says of a theory.
 fn answer(alloc: Global, command: Command<'_>, theory: Theory) -> Result<Reply, Memory>
@@ -89,7 +91,12 @@ fn respond<H: House>(alloc: Global, words: &Vec<String>, house: &mut H, sink: &m
 }
 
 /// The program: it answers the words of the command line on standard output, and says how it ends.
-pub fn run<H: House>(rt: &HostRuntime, alloc: Global, words: &Vec<String>, house: &mut H) -> Status
+pub fn run<R: Threads + Wait + Sync, H: House>(
+    rt: &R,
+    alloc: Global,
+    words: &Vec<String>,
+    house: &mut H,
+) -> Status
     requires { IsShut (H.state house.old) }
     ensures { Runs H.tells (H.state house.old) (H.state house.new) (map string_bytes words.now.items) result }
 {

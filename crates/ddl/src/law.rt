@@ -1,0 +1,22 @@
+//! What the clause of the program says of each status.
+
+ghost use Rattle.std.specs.Prelude.{◌≡◌, ◌⊎◌, Bool, true, List, ℕ, None, Some};
+ghost use Rattle.dl_io.specs.Outside.{Rose};
+ghost use Rattle.dl_io.specs.House.{HouseState};
+ghost use Rattle.dl_theory.specs.Lists.{TheoryLists};
+ghost use Rattle.ddl.specs.Run.{Answers};
+ghost use Rattle.ddl.specs.Theories.{IsTheoryFile, IsRefusal};
+ghost use Rattle.ddl.specs.Words.{Form, form, file_of};
+ghost use Rattle.ddl.specs.declared.refusal.Refusal.{Refusal};
+ghost use Rattle.ddl.specs.declared.status.Status.{Status};
+
+/// Usage comes only for words of no form. Done comes only where the file loads, and Refused only where it is refused.
+pub fn statuses_are_exact()
+    ensures usage { (tells : Bool) (old new : HouseState) (words : List (List ℕ)) → Answers tells old new words Status.Usage → form words ≡ None }
+    ensures done { (old new : HouseState) (words : List (List ℕ)) (asked : Form) (bytes : List ℕ) → Answers true old new words Status.Done
+        → form words ≡ Some asked → old.holds (file_of asked) ≡ Some bytes → (T : TheoryLists) × IsTheoryFile bytes T }
+    ensures refused { (old new : HouseState) (words : List (List ℕ)) (asked : Form) (bytes : List ℕ) → Answers true old new words Status.Refused
+        → form words ≡ Some asked → old.holds (file_of asked) ≡ Some bytes → (x : Refusal) × IsRefusal bytes x }
+    ensures no_form { (tells : Bool) (old new : HouseState) (words : List (List ℕ)) (ends : Status) → Answers tells old new words ends → form words ≡ None
+        → (Rose old.faults new.faults → ⊥) → (ends ≡ Status.Usage) ⊎ (ends ≡ Status.Memory) }
+{}

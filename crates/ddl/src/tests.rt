@@ -1,0 +1,1 @@
+//! Rows over a house in memory.
