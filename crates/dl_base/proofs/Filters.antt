@@ -1,11 +1,12 @@
 -- What a filter leaves, and removals as filters.
-use Rattle.std.proofs.Common.{◌≡◌, ◌≢◌, ℕ, zero, suc, ◌<◌, ◌≤◌, Bool, true, false, cond, List, [], ◌∷◌, length, map, get_or, inl, inr, refl, sym, ap, subst, ◌∙◌, not, arith}
+use Rattle.std.proofs.Common.{◌≡◌, ◌≢◌, ℕ, zero, suc, ◌<◌, ◌≤◌, Bool, true, false, cond, List, [], ◌∷◌, length, map, get_or, inl, inr, refl, sym, ap, subst, ◌∙◌, not, true≢false, arith}
 use Rattle.std.specs.Prelude.{All, Contains, filter, remove}
 use Rattle.std.specs.Bool.{Decides}
+use Rattle.std.specs.Set.{remove_key}
 use Rattle.std.proofs.lemmas.List.Elements.{All-head, All-tail, All-cons, All-nil, All-weaker, All-map, All-contains_itself, Contains-append_right, Contains-append_cases, Contains-get_or}
-use Rattle.std.proofs.lemmas.List.{get_or-map, length-map}
+use Rattle.std.proofs.lemmas.List.{get_or-map, length-map, map-id}
 use Rattle.dl_base.specs.Paths.{IsDistinct}
-use Rattle.dl_base.proofs.Members.{all_more, only}
+use Rattle.dl_base.proofs.Members.{all_more, only, Contains-mapped}
 use Rattle.dl_base.proofs.Distinct.{distinct_head, distinct_tail}
 
 pub false_unless : {P : Type 0} (b : Bool) → Decides b P → (¬ P) → b ≡ false
@@ -56,22 +57,20 @@ filter_mapped f p q (x ∷ xs) h =
     by true e = ap (λ l. f x ∷ l) e
     by false e = e
 
+pub map-remove : {X Y : Type 0} (f : X → Y) (xs : List X) (at : ℕ) → map f (remove xs at) ≡ remove (map f xs) at
+map-remove f [] zero = refl
+map-remove f [] (suc n) = refl
+map-remove f (x ∷ xs) zero = refl
+map-remove f (x ∷ xs) (suc n) = ap (λ l. f x ∷ l) (map-remove f xs n)
+
 module _ {X K : Type 0} (key : X → K) (eq : K → K → Bool) (same : (a b : K) → Decides (eq a b) (a ≡ b)) (k : K) where
   -- where no member has the key, a filter on that key leaves the list
   pub filter_absent : (xs : List X) → (¬ Contains (map key xs) k) → filter (λ x. not (eq (key x) k)) xs ≡ xs
   filter_absent xs none =
       filter_all (λ x. not (eq (key x) k)) xs
       (all_more (Contains xs) (λ x. not (eq (key x) k) ≡ true) xs
-      (λ x m _. ap not (false_unless (eq (key x) k) (same (key x) k) (λ e. none (subst (λ (z : K). Contains (map key xs) z) e (Contains-mapped xs x m)))))
+      (λ x m _. ap not (false_unless (eq (key x) k) (same (key x) k) (λ e. none (subst (λ (z : K). Contains (map key xs) z) e (Contains-mapped key xs x m)))))
       (All-contains_itself xs))
-    where
-      Contains-mapped : (ys : List X) (x : X) → Contains ys x → Contains (map key ys) (key x)
-      Contains-mapped [] x m = absurd (omega (arith, m.1))
-      Contains-mapped (y ∷ ys) x m =
-          elim (Contains-append_cases (y ∷ []) ys x m) [
-            | inl one ↦ subst (λ (z : X). Contains (map key (y ∷ ys)) (key z)) (sym (only y x one)) (Contains-get_or (key y ∷ map key ys) 0 (key y) (omega arith))
-            | inr there ↦ Contains-append_right (key y ∷ []) (map key ys) (key x) (Contains-mapped ys x there)
-          ]
 
   -- where the keys are distinct, removing the member with a key is a filter on that key
   pub remove_is_filter : (xs : List X) (at : ℕ) (d : X) → IsDistinct (map key xs) → at < length xs → key (get_or xs at d) ≡ k
@@ -88,3 +87,20 @@ module _ {X K : Type 0} (key : X → K) (eq : K → K → Bool) (same : (a b : K
       ap (λ l. x ∷ l) (remove_is_filter xs n d (distinct_tail (key x) (map key xs) distinct) (omega (arith, within)) e)
       ∙ sym (ap (λ b. cond (not b) (x ∷ filter (λ y. not (eq (key y) k)) xs) (filter (λ y. not (eq (key y) k)) xs))
       (false_unless (eq (key x) k) (same (key x) k) other))
+
+module _ {X : Type 0} (eq : X → X → Bool) (same : (a b : X) → Decides (eq a b) (a ≡ b)) (k : X) where
+  -- in a list without repeats, removing a value is a filter
+  pub remove_key_is_filter : (xs : List X) → IsDistinct xs → remove_key (eq k) xs ≡ filter (λ x. not (eq x k)) xs
+  remove_key_is_filter [] h = refl
+  remove_key_is_filter (x ∷ xs) h =
+      elim (eq k x) as (λ b. eq k x ≡ b → cond b xs (x ∷ remove_key (eq k) xs) ≡ filter (λ y. not (eq y k)) (x ∷ xs)) [
+        | true ↦ λ e.
+            let there : k ≡ x = (same k x).0 e in
+            sym (ap (λ b. cond (not b) (x ∷ filter (λ y. not (eq y k)) xs) (filter (λ y. not (eq y k)) xs)) ((same x k).1 (sym there))
+            ∙ filter_absent (λ (y : X). y) eq same k xs
+            (subst (λ (l : List X). ¬ Contains l k) (sym (map-id xs)) (subst (λ (z : X). ¬ Contains xs z) (sym there) (distinct_head x xs h))))
+        | false ↦ λ e.
+            let other : x ≡ k → ⊥ = λ t. true≢false (sym ((same k x).1 (sym t)) ∙ e) in
+            ap (λ l. x ∷ l) (remove_key_is_filter xs (distinct_tail x xs h))
+            ∙ sym (ap (λ b. cond (not b) (x ∷ filter (λ y. not (eq y k)) xs) (filter (λ y. not (eq y k)) xs)) (false_unless (eq x k) (same x k) other))
+      ] refl

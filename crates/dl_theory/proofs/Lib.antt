@@ -1,3 +1,5 @@
+pub mod Places
+pub mod Numbers
 pub mod Within
 pub mod Clashes
 pub mod Steps
