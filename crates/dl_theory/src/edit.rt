@@ -46,6 +46,28 @@ pub enum EditRefusal {
     PairsFull,
 }
 
+impl EditRefusal {
+    ghost use Rattle.std.specs.Prelude.{◌≡◌, IfOk};
+
+    /// An equal refusal.
+    pub fn copy(&self) -> Result<EditRefusal, Memory>
+        ensures { IfOk result (λ copy. copy ≡ self.now) }
+    {
+        match self {
+            EditRefusal::LabelThere(label) => Ok(EditRefusal::LabelThere(label.copy()?)),
+            EditRefusal::NoLabel(label) => Ok(EditRefusal::NoLabel(label.copy()?)),
+            EditRefusal::FactThere => Ok(EditRefusal::FactThere),
+            EditRefusal::NoFact => Ok(EditRefusal::NoFact),
+            EditRefusal::PairThere => Ok(EditRefusal::PairThere),
+            EditRefusal::NoPair => Ok(EditRefusal::NoPair),
+            EditRefusal::Cycle(path) => Ok(EditRefusal::Cycle(path.copy()?)),
+            EditRefusal::RulesFull => Ok(EditRefusal::RulesFull),
+            EditRefusal::FactsFull => Ok(EditRefusal::FactsFull),
+            EditRefusal::PairsFull => Ok(EditRefusal::PairsFull),
+        }
+    }
+}
+
 #[derive(Drop)]
 pub enum EditStop {
     Refused(EditRefusal),

@@ -40,6 +40,7 @@ impl Theory {
     ghost use Rattle.dl_theory.specs.Lists.{no_lists, IsWellFormed};
     ghost use Rattle.dl_theory.specs.Edits.{after_edit, after_edits, additions, AreAccepted, IsAccepted, IsStopped, IsPairsStop, HasLabel};
 
+    /// The empty theory.
     pub fn make(alloc: Global) -> Theory
         ensures { result ≡ no_lists }
     {
@@ -50,56 +51,74 @@ impl Theory {
         }
     }
 
+    /// How many facts there are.
     pub fn facts_len(&self) -> usize
-        ensures { result ≡ length self.now.facts }
+        ensures value { result ≡ length self.now.facts }
+        ensures well_formed { IsWellFormed self.now }
     {
         self.facts.len()
     }
 
+    /// How many rules there are.
     pub fn rules_len(&self) -> usize
-        ensures { result ≡ length self.now.rules }
+        ensures value { result ≡ length self.now.rules }
+        ensures well_formed { IsWellFormed self.now }
     {
         self.rules.len()
     }
 
+    /// How many pairs there are.
     pub fn pairs_len(&self) -> usize
-        ensures { result ≡ length self.now.pairs }
+        ensures value { result ≡ length self.now.pairs }
+        ensures well_formed { IsWellFormed self.now }
     {
         self.pairs.len()
     }
 
+    /// The fact at a place; `None` exactly past the end.
     pub fn fact(&self, at: usize) -> Option<&Literal>
-        ensures { option_copied result ≡ slice_get self.now.facts at }
+        ensures value { option_copied result ≡ slice_get self.now.facts at }
+        ensures well_formed { IsWellFormed self.now }
     {
         self.facts.get_index(at)
     }
 
+    /// The rule at a place; `None` exactly past the end.
     pub fn rule(&self, at: usize) -> Option<&Rule>
-        ensures { option_copied result ≡ slice_get self.now.rules at }
+        ensures value { option_copied result ≡ slice_get self.now.rules at }
+        ensures well_formed { IsWellFormed self.now }
     {
         self.rules.get(at)
     }
 
+    /// The facts, in order.
     pub fn facts(&self) -> &[Literal]
-        ensures { result.now ≡ self.now.facts }
+        ensures value { result.now ≡ self.now.facts }
+        ensures well_formed { IsWellFormed self.now }
     {
         self.facts.as_slice()
     }
 
+    /// The rules, in order.
     pub fn rules(&self) -> &[Rule]
-        ensures { result.now ≡ self.now.rules }
+        ensures value { result.now ≡ self.now.rules }
+        ensures well_formed { IsWellFormed self.now }
     {
         self.rules.as_slice()
     }
 
+    /// The pairs, in order.
     pub fn pairs(&self) -> &[Pair]
-        ensures { result.now ≡ self.now.pairs }
+        ensures value { result.now ≡ self.now.pairs }
+        ensures well_formed { IsWellFormed self.now }
     {
         self.pairs.as_slice()
     }
 
+    /// The pair at a place; `None` exactly past the end.
     pub fn pair(&self, at: usize) -> Option<&Pair>
-        ensures { option_copied result ≡ slice_get self.now.pairs at }
+        ensures value { option_copied result ≡ slice_get self.now.pairs at }
+        ensures well_formed { IsWellFormed self.now }
     {
         self.pairs.get(at)
     }
