@@ -1,5 +1,5 @@
 -- Pairs of labels by pairs of numbers: what holds of the ones holds of the others.
-use Rattle.std.proofs.Common.{◌≡◌, ◌≢◌, ℕ, ◌<◌, ◌≤◌, ◌==◌, ◌⊎◌, Bool, true, cond, not, ◌&&◌, ◌||◌, List, [], ◌∷◌, ◌++◌, Option, None, Result, Ok, Err, get_or, length, map, filter, inl, inr, refl, sym, ap, subst, ◌∙◌, arith}
+use Rattle.std.proofs.Common.{◌≡◌, ◌≢◌, ℕ, ◌<◌, ◌≤◌, ◌==◌, ◌⊎◌, Bool, true, cond, not, ◌&&◌, ◌||◌, List, [], ◌∷◌, ◌++◌, Option, None, Result, Ok, Err, get_or, length, map, take, filter, inl, inr, refl, sym, ap, subst, ◌∙◌, arith}
 use Rattle.std.specs.Prelude.{All, Contains, OnOk, OnErr}
 use Rattle.std.specs.List.{position_or_len}
 use Rattle.std.specs.Bool.{Decides}
@@ -7,9 +7,9 @@ use Rattle.std.specs.Str.{bytes_eq}
 use Rattle.std.proofs.lemmas.Bool.{cases_eq, cases_lt}
 use Rattle.std.proofs.lemmas.Bool.Decides.{same_from_decides, Decides-and, Decides-like, Decides-eqb}
 use Rattle.std.proofs.lemmas.Slice.Eq.{bytes_eq-Decides}
-use Rattle.std.proofs.lemmas.List.{get_or_append_left, map-append, length-append, append-nil}
+use Rattle.std.proofs.lemmas.List.{get_or_append_left, take-map, map-append, length-append, append-nil}
 use Rattle.std.proofs.lemmas.List.Sums.{position_or_len_is}
-use Rattle.std.proofs.lemmas.List.Elements.{All-push, All-weaker, All-filter, All-contains, All-map, All-contains_itself, Contains-get_or, Contains-push, filter-append}
+use Rattle.std.proofs.lemmas.List.Elements.{All-push, All-take, All-weaker, All-filter, All-contains, All-map, All-contains_itself, Contains-get_or, Contains-push, filter-append}
 use Rattle.dl_base.specs.Paths.{IsDistinct, IsPath}
 use Rattle.dl_base.proofs.Members.{all_more, Contains-mapped, mapped_from, map_agree}
 use Rattle.dl_base.proofs.Filters.{filter_all, filter_mapped, false_unless}
@@ -139,6 +139,18 @@ module _ (items : List (List ℕ)) (links : List Link) (pairs : List Pair) (h : 
         new (subst (λ (q : Pair). Contains pairs q) number.names
         (subst (λ (ps : List Pair). Contains ps (named items l)) (sym h.names) (Contains-mapped (named items) links l m)))
 
+    -- a pair that is there has its pair of numbers there
+    pub old_link : Contains pairs p → Contains links l
+    old_link m =
+        let from = mapped_from (named items) links p (subst (λ (ps : List Pair). Contains ps p) h.names m) in
+        let there : Link = from.0 in
+        let within = All-contains (IsWithin items) links there h.within from.1 in
+        let upper : there.upper ≡ l.upper =
+        same_number items h.distinct there.upper l.upper within.0 number.within.0 (ap (λ q. q.upper) from.2 ∙ sym upper_name) in
+        let lower : there.lower ≡ l.lower =
+        same_number items h.distinct there.lower l.lower within.1 number.within.1 (ap (λ q. q.lower) from.2 ∙ sym lower_name) in
+        subst (λ (z : Link). Contains links z) (λ i. record { upper = upper i; lower = lower i }) from.1
+
     pub numbered_push : IsNumbered items (links ++ l ∷ []) (pairs ++ p ∷ [])
     numbered_push = record {
       distinct = h.distinct;
@@ -148,6 +160,14 @@ module _ (items : List (List ℕ)) (links : List Link) (pairs : List Pair) (h : 
           ∙ ap (λ q. map (named items) links ++ q ∷ []) (sym number.names)
           ∙ sym (map-append (named items) links (l ∷ []));
     }
+
+  -- the first of both
+  pub numbered_taken : (n : ℕ) → IsNumbered items (take n links) (take n pairs)
+  numbered_taken n = record {
+    distinct = h.distinct;
+    within = All-take (IsWithin items) n links h.within;
+    names = ap (take n) h.names ∙ take-map (named items) n links;
+  }
 
   -- fewer of both
   pub numbered_filtered : (p : Pair → Bool) (q : Link → Bool) → ((l : Link) → IsWithin items l → p (named items l) ≡ q l)

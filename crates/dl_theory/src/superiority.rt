@@ -7,14 +7,15 @@ ghost use Rattle.dl_base.specs.Paths.{IsDistinct};
 ghost use Rattle.dl_sup.specs.Links.{names_item};
 ghost use Rattle.dl_sup.specs.Adding.{ClosesCycle};
 ghost use Rattle.dl_theory.specs.Pairs.{pair_eq, Closes, label_at, IsWithin, IsNumbered, IsNumberOf};
-ghost use Rattle.dl_theory.specs.Superiority.{IsPairStop, IsLinkStop};
+ghost use Rattle.dl_theory.specs.Superiority.{IsPairStop, IsLinkStop, AddsAll, OrdersAll};
+ghost use Rattle.std.specs.Option.{option_map_or};
 
 use crate::lists::Path;
 use crate::rule::Pair;
 use crate::labels::{append_label, place_of};
 use crate::theory::LIMIT;
 use dl_lit::{Memory, Name};
-use dl_sup::{Link, Order, SupStop};
+use dl_sup::{Link, LoadStop, Order, SupStop};
 use indexmap::IndexSet;
 use std::alloc::Global;
 use std::marker::Model;
@@ -25,6 +26,21 @@ pub(crate) enum PairStop {
     Cycle(Path),
     Full,
     Memory,
+}
+
+/// Why a pair of several was not added.
+#[derive(Drop)]
+pub(crate) enum PairCause {
+    There,
+    Cycle(Path),
+    Full,
+}
+
+/// The first pair of several that was not added.
+#[derive(Drop)]
+pub(crate) struct PairRefused {
+    pub at: usize,
+    pub cause: PairCause,
 }
 
 impl From<Memory> for PairStop {
@@ -90,6 +106,28 @@ impl Superiority {
             pair,
             link,
         )
+    }
+
+    /// The pairs of a list, or those before the first that is refused.
+    pub fn load(
+        alloc: Global,
+        pairs: &[Pair],
+    ) -> Result<(Superiority, Option<PairRefused>), Memory>
+        ensures { IfOk result (λ r. AddsAll [] r.0 pairs.now r.1) }
+    {
+        let mut items = IndexSet::new(alloc);
+        let links = number_all(alloc, &mut items, pairs)?;
+        let (order, refused) = order_of(alloc, items.as_slice(), links.as_slice())?;
+        let kept = kept_len(&refused, pairs.len());
+        let pairs = collect_pairs(alloc, &pairs[..kept])?;
+        Ok((
+            Superiority {
+                pairs,
+                items,
+                order,
+            },
+            refused,
+        ))
     }
 
     /// Removes a pair; tells whether it was there.
@@ -169,6 +207,66 @@ fn number_pair(items: &mut IndexSet<Name>, pair: &Pair) -> Result<Link, Memory>
     let upper = number(items, &pair.upper)?;
     let lower = number(items, &pair.lower)?;
     Ok(Link { upper, lower })
+}
+
+fn number_all(
+    alloc: Global,
+    items: &mut IndexSet<Name>,
+    pairs: &[Pair],
+) -> Result<Vec<Link>, Memory>
+    requires { IsDistinct items.old.keys }
+    ensures { IfOk result (λ links. IsNumbered items.new.keys links.items pairs.now) }
+{
+    let mut links = Vec::new(alloc);
+    for pair in pairs {
+        links.push(number_pair(items, pair)?)?;
+    }
+    Ok(links)
+}
+
+/// An order of pairs of numbers, or of those before the first that is refused.
+fn order_of(
+    alloc: Global,
+    items: &[Name],
+    links: &[Link],
+) -> Result<(Order, Option<PairRefused>), Memory>
+    requires { All (IsWithin items.now) links.now }
+    ensures { IfOk result (λ r. OrdersAll items.now r.0 links.now r.1) }
+{
+    let mut order = Order::make(alloc);
+    match order.add_all(links) {
+        Ok(()) => Ok((order, None)),
+        Err(LoadStop::There { at }) => {
+            let cause = PairCause::There;
+            Ok((order, Some(PairRefused { at, cause })))
+        }
+        Err(LoadStop::Cycle { at, track }) => {
+            let cause = PairCause::Cycle(path_of(alloc, items, track.as_slice())?);
+            Ok((order, Some(PairRefused { at, cause })))
+        }
+        Err(LoadStop::Memory) => Err(Memory),
+    }
+}
+
+/// How many pairs come before the one that is refused.
+fn kept_len(refused: &Option<PairRefused>, len: usize) -> usize
+    ensures { result ≡ option_map_or (λ r. r.at) refused.now len }
+{
+    match refused {
+        None => len,
+        Some(refused) => refused.at,
+    }
+}
+
+fn collect_pairs(alloc: Global, pairs: &[Pair]) -> Result<IndexSet<Pair>, Memory>
+    requires { IsDistinct pairs.now }
+    ensures { IfOk result (λ set. set.keys ≡ pairs.now) }
+{
+    let mut set = IndexSet::new(alloc);
+    for pair in pairs {
+        insert_pair(&mut set, pair.copy()?)?;
+    }
+    Ok(set)
 }
 
 /// The labels of a track of numbers.
