@@ -2,3 +2,4 @@ pub mod Members
 pub mod Distinct
 pub mod PathLemmas
 pub mod Climb
+pub mod Filters

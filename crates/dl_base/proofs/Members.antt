@@ -1,7 +1,7 @@
 -- Members of a list, all of them or some.
-use Rattle.std.proofs.Common.{◌≡◌, Bool, List, [], ◌∷◌, inl, inr, ◌⊎◌, get_or, refl, suc, arith}
+use Rattle.std.proofs.Common.{◌≡◌, Bool, List, [], ◌∷◌, inl, inr, ◌⊎◌, get_or, map, refl, sym, subst, suc, arith}
 use Rattle.std.specs.Prelude.{All, Any, Contains, filter}
-use Rattle.std.proofs.lemmas.List.Elements.{All-nil, All-cons, All-contains, All-contains_itself, All-filter, Contains-append_right, Contains-get_or}
+use Rattle.std.proofs.lemmas.List.Elements.{All-nil, All-cons, All-head, All-tail, All-contains, All-contains_itself, All-filter, Contains-append_cases, Contains-append_right, Contains-get_or}
 
 module _ {X : Type 0} (P Q : X → Type 0) (xs : List X) (f : (x : X) → Contains xs x → P x → Q x) where
   pub all_more : All P xs → All Q xs
@@ -29,3 +29,26 @@ all_or_any P Q (x ∷ xs) h =
 -- what a filter leaves was there
 pub Contains-filtered : {X : Type 0} (p : X → Bool) (xs : List X) (x : X) → Contains (filter p xs) x → Contains xs x
 Contains-filtered p xs x h = All-contains (Contains xs) (filter p xs) x (All-filter p (Contains xs) xs (All-contains_itself xs)) h
+
+-- what a map makes of a member
+pub Contains-mapped : {X Y : Type 0} (f : X → Y) (xs : List X) (x : X) → Contains xs x → Contains (map f xs) (f x)
+Contains-mapped f [] x m = absurd (omega (arith, m.1))
+Contains-mapped {X} f (y ∷ xs) x m =
+    elim (Contains-append_cases (y ∷ []) xs x m) [
+      | inl one ↦ subst (λ (z : X). Contains (map f (y ∷ xs)) (f z)) (sym (only y x one)) (Contains-get_or (f y ∷ map f xs) 0 (f y) (omega arith))
+      | inr there ↦ Contains-append_right (f y ∷ []) (map f xs) (f x) (Contains-mapped f xs x there)
+    ]
+
+-- a member of mapped ones comes from a member
+pub mapped_from : {X Y : Type 0} (f : X → Y) (xs : List X) (y : Y) → Contains (map f xs) y → (x : X) × Contains xs x × (f x ≡ y)
+mapped_from f [] y m = absurd (omega (arith, m.1))
+mapped_from f (x ∷ xs) y m =
+    elim (Contains-append_cases (f x ∷ []) (map f xs) y m) [
+      | inl one ↦ (x, Contains-get_or (x ∷ xs) 0 x (omega arith), sym (only (f x) y one))
+      | inr there ↦ let rest = mapped_from f xs y there in (rest.0, Contains-append_right (x ∷ []) xs rest.0 rest.1, rest.2)
+    ]
+
+-- maps that agree at each member make the same list
+pub map_agree : {X Y : Type 0} (f g : X → Y) (xs : List X) → All (λ x. f x ≡ g x) xs → map f xs ≡ map g xs
+map_agree f g [] h = refl
+map_agree f g (x ∷ xs) h = λ i. All-head (λ y. f y ≡ g y) x xs h i ∷ map_agree f g xs (All-tail (λ y. f y ≡ g y) x xs h) i

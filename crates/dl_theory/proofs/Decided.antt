@@ -18,7 +18,7 @@ use Rattle.dl_lit.specs.Order.{literal_eq-Decides, tagged_eq-Decides}
 use Rattle.dl_theory.specs.declared.rule.Rule.{Rule}
 use Rattle.dl_theory.specs.declared.rule.Pair.{Pair}
 use Rattle.dl_theory.specs.Lists.{TheoryLists, IsStrictFor, Supports, Opposes, Beats, attackers, is_strict, can_support}
-use Rattle.dl_theory.specs.Edits.{pair_eq}
+use Rattle.dl_theory.specs.Pairs.{pair_eq, pair_eq-Decides}
 use Rattle.dl_theory.specs.Conditions.{IsOn, IsOff, Prevails, Fails, Condition, Meets}
 use Rattle.std.proofs.lemmas.List.Kept.{AllPairs-cons}
 use Rattle.std.proofs.lemmas.List.Elements.{Contains-get_or}
@@ -31,11 +31,6 @@ decides_member xs x = is_member-Decides tagged_eq-Decides xs x
 
 pub decides_lacks : (xs : List Tagged) (x : Tagged) → Decides (test.lacks xs x) (¬ Contains xs x)
 decides_lacks xs x = Decides-not (test.has xs x) (decides_member xs x)
-
-pub pair_eq-Decides : (p q : Pair) → Decides (pair_eq p q) (p ≡ q)
-pair_eq-Decides p q =
-    Decides-like (pair_eq p q) (λ h i. record { upper = h.0 i; lower = h.1 i }) (λ e. (ap (λ r. r.upper) e, ap (λ r. r.lower) e))
-    (Decides-and (bytes_eq p.upper q.upper) (bytes_eq p.lower q.lower) (bytes_eq-Decides p.upper q.upper) (bytes_eq-Decides p.lower q.lower))
 
 -- of three parts
 decides_three : {P Q R : Type 0} (a b c : Bool) → Decides a P → Decides b Q → Decides c R → Decides ((a && b) && c) (P × Q × R)

@@ -13,13 +13,13 @@ use Rattle.dl_theory.specs.declared.rule.Rule.{Rule}
 use Rattle.dl_theory.specs.declared.rule.Pair.{Pair}
 use Rattle.dl_base.specs.Paths.{HasCycle}
 use Rattle.dl_theory.specs.Lists.{TheoryLists, IsAbove, labels, Supports, Opposes, Beats, attackers}
-use Rattle.dl_theory.specs.Edits.{pair_eq}
+use Rattle.dl_theory.specs.Pairs.{pair_eq}
 use Rattle.dl_theory.specs.Conditions.{IsOn, IsOff, Fails, Condition}
 use Rattle.dl_theory.specs.Derivations.{Follows}
 use Rattle.dl_theory.specs.Laws.{IsInclusive}
 use Rattle.dl_base.proofs.Members.{all_more, any_more}
 use Rattle.dl_theory.proofs.Deciding.{decided, supports, opposes}
-use Rattle.dl_theory.proofs.Decided.{pair_eq-Decides}
+use Rattle.dl_theory.specs.Pairs.{pair_eq-Decides}
 use Rattle.dl_theory.proofs.Steps.{follows_all}
 use Rattle.dl_base.proofs.Members.{only}
 use Rattle.dl_theory.proofs.Closure.{follows_over, follows_step, follows_meets}

@@ -13,9 +13,7 @@ use Rattle.dl_theory.specs.declared.edit.PairsStop.{PairsStop}
 use Rattle.dl_theory.specs.declared.edit.PairsStop.TheVariants as pairs_stop
 use Rattle.dl_base.specs.Paths.{IsPath}
 use Rattle.dl_theory.specs.Lists.{TheoryLists, labels, IsAbove}
-
-abbrev pub pair_eq : Pair → Pair → Bool
-pair_eq p q = bytes_eq p.upper q.upper && bytes_eq p.lower q.lower
+use Rattle.dl_theory.specs.Pairs.{pair_eq, Closes}
 
 abbrev pub HasLabel : TheoryLists → List ℕ → Type 0
 HasLabel T label = Contains (labels T) label
@@ -32,9 +30,8 @@ after_edit T (DropFact q) = record T { facts = filter (λ x. not (literal_eq x q
 after_edit T (AddPair p) = record T { pairs = T.pairs ++ p ∷ [] }
 after_edit T (DropPair p) = record T { pairs = filter (λ x. not (pair_eq x p)) T.pairs }
 
--- a path leads from the lower label to the upper one, or they are one label
 abbrev pub ClosesCycle : TheoryLists → Pair → Type 0
-ClosesCycle T p = (path : List (List ℕ)) × IsPath (IsAbove T.pairs) p.lower p.upper path
+ClosesCycle T p = Closes T.pairs p
 
 abbrev pub IsAccepted : TheoryLists → Edit → Type 0
 IsAccepted T (AddRule r) = (¬ HasLabel T r.label) × (length T.rules < 1000000)

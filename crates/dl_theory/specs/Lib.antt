@@ -3,6 +3,9 @@ pub mod Conditions
 pub mod Derivations
 pub mod Listings
 pub mod Verdicts
+pub mod Pairs
+pub mod Superiority
+pub mod KeptPairs
 pub mod Edits
 pub mod Cones
 pub mod Laws

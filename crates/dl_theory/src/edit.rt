@@ -14,6 +14,24 @@ pub enum Edit {
     DropPair(Pair),
 }
 
+impl Edit {
+    ghost use Rattle.std.specs.Prelude.{◌≡◌, IfOk};
+
+    /// An equal edit.
+    pub fn copy(&self) -> Result<Edit, Memory>
+        ensures { IfOk result (λ copy. copy ≡ self.now) }
+    {
+        match self {
+            Edit::AddRule(rule) => Ok(Edit::AddRule(rule.copy()?)),
+            Edit::DropRule(label) => Ok(Edit::DropRule(label.copy()?)),
+            Edit::AddFact(fact) => Ok(Edit::AddFact(fact.copy()?)),
+            Edit::DropFact(fact) => Ok(Edit::DropFact(fact.copy()?)),
+            Edit::AddPair(pair) => Ok(Edit::AddPair(pair.copy()?)),
+            Edit::DropPair(pair) => Ok(Edit::DropPair(pair.copy()?)),
+        }
+    }
+}
+
 #[derive(Drop)]
 pub enum EditRefusal {
     LabelThere(Name),
@@ -26,6 +44,28 @@ pub enum EditRefusal {
     RulesFull,
     FactsFull,
     PairsFull,
+}
+
+impl EditRefusal {
+    ghost use Rattle.std.specs.Prelude.{◌≡◌, IfOk};
+
+    /// An equal refusal.
+    pub fn copy(&self) -> Result<EditRefusal, Memory>
+        ensures { IfOk result (λ copy. copy ≡ self.now) }
+    {
+        match self {
+            EditRefusal::LabelThere(label) => Ok(EditRefusal::LabelThere(label.copy()?)),
+            EditRefusal::NoLabel(label) => Ok(EditRefusal::NoLabel(label.copy()?)),
+            EditRefusal::FactThere => Ok(EditRefusal::FactThere),
+            EditRefusal::NoFact => Ok(EditRefusal::NoFact),
+            EditRefusal::PairThere => Ok(EditRefusal::PairThere),
+            EditRefusal::NoPair => Ok(EditRefusal::NoPair),
+            EditRefusal::Cycle(path) => Ok(EditRefusal::Cycle(path.copy()?)),
+            EditRefusal::RulesFull => Ok(EditRefusal::RulesFull),
+            EditRefusal::FactsFull => Ok(EditRefusal::FactsFull),
+            EditRefusal::PairsFull => Ok(EditRefusal::PairsFull),
+        }
+    }
 }
 
 #[derive(Drop)]

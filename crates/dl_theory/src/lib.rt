@@ -3,9 +3,12 @@
 
 mod answer;
 mod edit;
+mod labels;
 mod laws;
 mod lists;
 mod rule;
+mod rules;
+mod superiority;
 mod theory;
 
 pub use answer::{Answer, Certificate, Verdict};

@@ -1,24 +1,27 @@
 //! Theories under edits.
 
-ghost use Rattle.std.specs.Prelude.{◌≡◌, length, slice_get, OnOk, OnErr, IfErr, ◌≤◌, ◌↔◌, IsTrue, Contains, ◌++◌, ◌∷◌, []};
+ghost use Rattle.std.specs.Prelude.{◌≡◌, length, slice_get, OnOk, OnErr, IfOk, IfErr, ◌≤◌, ◌↔◌, IsTrue, Contains, ◌++◌, ◌∷◌, [], filter, not};
+ghost use Rattle.dl_base.specs.Paths.{IsDistinct};
+ghost use Rattle.dl_lit.specs.Literal.{literal_eq};
 ghost use Rattle.std.specs.Option.{option_copied};
 
 use crate::edit::{Edit, EditRefusal, EditStop, PairsStop};
 use crate::rule::{Pair, Rule};
+use crate::rules::Rules;
+use crate::superiority::{PairStop, Superiority};
 use dl_lit::{Literal, Memory, Name};
 use indexmap::IndexSet;
 use std::alloc::Global;
 use std::marker::Model;
 
-const LIMIT: usize = 1_000_000;
+pub(crate) const LIMIT: usize = 1_000_000;
 
 /// Facts, rules with distinct labels, and pairs of labels.
 #[derive(Drop)]
 pub struct Theory {
     facts: IndexSet<Literal>,
-    rules: Vec<Rule>,
-    labels: IndexSet<Name>,
-    pairs: Vec<Pair>,
+    rules: Rules,
+    pairs: Superiority,
 }
 
 impl Model for Theory {
@@ -35,69 +38,87 @@ impl Model for Theory {
 
 impl Theory {
     ghost use Rattle.dl_theory.specs.Lists.{no_lists, IsWellFormed};
-    ghost use Rattle.dl_theory.specs.Edits.{after_edit, after_edits, additions, AreAccepted, IsAccepted, IsStopped, IsPairsStop};
+    ghost use Rattle.dl_theory.specs.Edits.{after_edit, after_edits, additions, AreAccepted, IsAccepted, IsStopped, IsPairsStop, HasLabel};
 
+    /// The empty theory.
     pub fn make(alloc: Global) -> Theory
         ensures { result ≡ no_lists }
     {
         Theory {
             facts: IndexSet::new(alloc),
-            rules: Vec::new(alloc),
-            labels: IndexSet::new(alloc),
-            pairs: Vec::new(alloc),
+            rules: Rules::make(alloc),
+            pairs: Superiority::make(alloc),
         }
     }
 
+    /// How many facts there are.
     pub fn facts_len(&self) -> usize
-        ensures { result ≡ length self.now.facts }
+        ensures value { result ≡ length self.now.facts }
+        ensures well_formed { IsWellFormed self.now }
     {
         self.facts.len()
     }
 
+    /// How many rules there are.
     pub fn rules_len(&self) -> usize
-        ensures { result ≡ length self.now.rules }
+        ensures value { result ≡ length self.now.rules }
+        ensures well_formed { IsWellFormed self.now }
     {
         self.rules.len()
     }
 
+    /// How many pairs there are.
     pub fn pairs_len(&self) -> usize
-        ensures { result ≡ length self.now.pairs }
+        ensures value { result ≡ length self.now.pairs }
+        ensures well_formed { IsWellFormed self.now }
     {
         self.pairs.len()
     }
 
+    /// The fact at a place; `None` exactly past the end.
     pub fn fact(&self, at: usize) -> Option<&Literal>
-        ensures { option_copied result ≡ slice_get self.now.facts at }
+        ensures value { option_copied result ≡ slice_get self.now.facts at }
+        ensures well_formed { IsWellFormed self.now }
     {
         self.facts.get_index(at)
     }
 
+    /// The rule at a place; `None` exactly past the end.
     pub fn rule(&self, at: usize) -> Option<&Rule>
-        ensures { option_copied result ≡ slice_get self.now.rules at }
+        ensures value { option_copied result ≡ slice_get self.now.rules at }
+        ensures well_formed { IsWellFormed self.now }
     {
         self.rules.get(at)
     }
 
+    /// The facts, in order.
     pub fn facts(&self) -> &[Literal]
-        ensures { result.now ≡ self.now.facts }
+        ensures value { result.now ≡ self.now.facts }
+        ensures well_formed { IsWellFormed self.now }
     {
         self.facts.as_slice()
     }
 
+    /// The rules, in order.
     pub fn rules(&self) -> &[Rule]
-        ensures { result.now ≡ self.now.rules }
+        ensures value { result.now ≡ self.now.rules }
+        ensures well_formed { IsWellFormed self.now }
     {
         self.rules.as_slice()
     }
 
+    /// The pairs, in order.
     pub fn pairs(&self) -> &[Pair]
-        ensures { result.now ≡ self.now.pairs }
+        ensures value { result.now ≡ self.now.pairs }
+        ensures well_formed { IsWellFormed self.now }
     {
         self.pairs.as_slice()
     }
 
+    /// The pair at a place; `None` exactly past the end.
     pub fn pair(&self, at: usize) -> Option<&Pair>
-        ensures { option_copied result ≡ slice_get self.now.pairs at }
+        ensures value { option_copied result ≡ slice_get self.now.pairs at }
+        ensures well_formed { IsWellFormed self.now }
     {
         self.pairs.get(at)
     }
@@ -109,11 +130,8 @@ impl Theory {
         ensures stopped { IfErr result (IsStopped self.old edit.now) }
         ensures kept { OnErr result (self.new ≡ self.old) }
     {
-        match edit {
-            Edit::AddRule(rule) => self.add_rule(rule),
-            Edit::AddFact(fact) => self.add_fact(fact),
-            _ => Err(EditStop::Memory),
-        }
+        let edit = edit.copy()?;
+        self.apply_owned(edit)
     }
 
     /// Makes an edit that is handed over, or says why not: `apply` without a copy of the edit.
@@ -123,7 +141,14 @@ impl Theory {
         ensures stopped { IfErr result (IsStopped self.old edit) }
         ensures kept { OnErr result (self.new ≡ self.old) }
     {
-        self.apply(&edit)
+        match edit {
+            Edit::AddRule(rule) => self.add_rule(rule),
+            Edit::DropRule(label) => self.drop_rule(label),
+            Edit::AddFact(fact) => self.add_fact(fact),
+            Edit::DropFact(fact) => self.drop_fact(&fact),
+            Edit::AddPair(pair) => self.add_pair(pair),
+            Edit::DropPair(pair) => self.drop_pair(&pair),
+        }
     }
 
     /// Adds pairs as adding them one by one, in order, up to the first that is refused.
@@ -136,38 +161,111 @@ impl Theory {
         Err(PairsStop::Memory)
     }
 
-    fn add_fact(&mut self, fact: &Literal) -> Result<(), EditStop>
-        ensures accepted { OnOk result (IsAccepted self.old (Edit.AddFact fact.now)) }
-        ensures changed { OnOk result (self.new ≡ after_edit self.old (Edit.AddFact fact.now)) }
-        ensures stopped { IfErr result (IsStopped self.old (Edit.AddFact fact.now)) }
+    fn add_rule(&mut self, rule: Rule) -> Result<(), EditStop>
+        ensures accepted { OnOk result (IsAccepted self.old (Edit.AddRule rule)) }
+        ensures changed { OnOk result (self.new ≡ after_edit self.old (Edit.AddRule rule)) }
+        ensures stopped { IfErr result (IsStopped self.old (Edit.AddRule rule)) }
         ensures kept { OnErr result (self.new ≡ self.old) }
     {
-        if holds(&self.facts, fact) {
-            return Err(EditStop::Refused(EditRefusal::FactThere));
-        }
-        if self.facts.len() >= LIMIT {
-            return Err(EditStop::Refused(EditRefusal::FactsFull));
-        }
-        let fact = fact.copy()?;
-        append(&mut self.facts, fact)?;
-        Ok(())
-    }
-
-    fn add_rule(&mut self, rule: &Rule) -> Result<(), EditStop>
-        ensures accepted { OnOk result (IsAccepted self.old (Edit.AddRule rule.now)) }
-        ensures changed { OnOk result (self.new ≡ after_edit self.old (Edit.AddRule rule.now)) }
-        ensures stopped { IfErr result (IsStopped self.old (Edit.AddRule rule.now)) }
-        ensures kept { OnErr result (self.new ≡ self.old) }
-    {
-        let label = rule.label.copy()?;
-        if holds_label(&self.labels, &label) {
+        if self.rules.has(&rule.label) {
+            let Rule { label, .. } = rule;
             return Err(EditStop::Refused(EditRefusal::LabelThere(label)));
         }
         if self.rules.len() >= LIMIT {
             return Err(EditStop::Refused(EditRefusal::RulesFull));
         }
-        let rule = rule.copy()?;
-        append_rule(&mut self.rules, &mut self.labels, label, rule)?;
+        self.rules.push(rule)?;
+        Ok(())
+    }
+
+    fn drop_rule(&mut self, label: Name) -> Result<(), EditStop>
+        ensures accepted { OnOk result (IsAccepted self.old (Edit.DropRule label)) }
+        ensures changed { OnOk result (self.new ≡ after_edit self.old (Edit.DropRule label)) }
+        ensures stopped { IfErr result (IsStopped self.old (Edit.DropRule label)) }
+        ensures kept { OnErr result (self.new ≡ self.old) }
+    {
+        if !self.rules.has(&label) {
+            return Err(EditStop::Refused(EditRefusal::NoLabel(label)));
+        }
+        self.rules.drop_label(&label);
+        self.pairs.drop_label(&label);
+        Ok(())
+    }
+
+    fn add_fact(&mut self, fact: Literal) -> Result<(), EditStop>
+        ensures accepted { OnOk result (IsAccepted self.old (Edit.AddFact fact)) }
+        ensures changed { OnOk result (self.new ≡ after_edit self.old (Edit.AddFact fact)) }
+        ensures stopped { IfErr result (IsStopped self.old (Edit.AddFact fact)) }
+        ensures kept { OnErr result (self.new ≡ self.old) }
+    {
+        if holds(&self.facts, &fact) {
+            return Err(EditStop::Refused(EditRefusal::FactThere));
+        }
+        if self.facts.len() >= LIMIT {
+            return Err(EditStop::Refused(EditRefusal::FactsFull));
+        }
+        append(&mut self.facts, fact)?;
+        Ok(())
+    }
+
+    fn drop_fact(&mut self, fact: &Literal) -> Result<(), EditStop>
+        ensures accepted { OnOk result (IsAccepted self.old (Edit.DropFact fact.now)) }
+        ensures changed { OnOk result (self.new ≡ after_edit self.old (Edit.DropFact fact.now)) }
+        ensures stopped { IfErr result (IsStopped self.old (Edit.DropFact fact.now)) }
+        ensures kept { OnErr result (self.new ≡ self.old) }
+    {
+        if !holds(&self.facts, fact) {
+            return Err(EditStop::Refused(EditRefusal::NoFact));
+        }
+        remove(&mut self.facts, fact);
+        Ok(())
+    }
+
+    fn add_pair(&mut self, pair: Pair) -> Result<(), EditStop>
+        ensures accepted { OnOk result (IsAccepted self.old (Edit.AddPair pair)) }
+        ensures changed { OnOk result (self.new ≡ after_edit self.old (Edit.AddPair pair)) }
+        ensures stopped { IfErr result (IsStopped self.old (Edit.AddPair pair)) }
+        ensures kept { OnErr result (self.new ≡ self.old) }
+    {
+        let pair = self.with_labels(pair)?;
+        if self.pairs.has(&pair) {
+            return Err(EditStop::Refused(EditRefusal::PairThere));
+        }
+        match self.pairs.add(pair) {
+            Ok(()) => Ok(()),
+            Err(PairStop::Cycle(path)) => Err(EditStop::Refused(EditRefusal::Cycle(path))),
+            Err(PairStop::Full) => Err(EditStop::Refused(EditRefusal::PairsFull)),
+            Err(PairStop::Memory) => Err(EditStop::Memory),
+        }
+    }
+
+    /// Gives back a pair of which both labels are those of rules.
+    fn with_labels(&self, pair: Pair) -> Result<Pair, EditStop>
+        ensures same { IfOk result (λ given. given ≡ pair) }
+        ensures there { OnOk result (HasLabel self.now pair.upper × HasLabel self.now pair.lower) }
+        ensures stopped { IfErr result (IsStopped self.now (Edit.AddPair pair)) }
+    {
+        if !self.rules.has(&pair.upper) {
+            let Pair { upper, .. } = pair;
+            return Err(EditStop::Refused(EditRefusal::NoLabel(upper)));
+        }
+        if !self.rules.has(&pair.lower) {
+            let Pair { lower, .. } = pair;
+            return Err(EditStop::Refused(EditRefusal::NoLabel(lower)));
+        }
+        Ok(pair)
+    }
+
+    fn drop_pair(&mut self, pair: &Pair) -> Result<(), EditStop>
+        ensures accepted { OnOk result (IsAccepted self.old (Edit.DropPair pair.now)) }
+        ensures changed { OnOk result (self.new ≡ after_edit self.old (Edit.DropPair pair.now)) }
+        ensures stopped { IfErr result (IsStopped self.old (Edit.DropPair pair.now)) }
+        ensures kept { OnErr result (self.new ≡ self.old) }
+    {
+        if !self.pairs.has(pair) {
+            return Err(EditStop::Refused(EditRefusal::NoPair));
+        }
+        self.pairs.drop_pair(pair);
         Ok(())
     }
 }
@@ -187,39 +285,10 @@ fn append(facts: &mut IndexSet<Literal>, fact: Literal) -> Result<(), Memory>
     Ok(())
 }
 
-fn holds_label(labels: &IndexSet<Name>, label: &Name) -> bool
-    ensures { IsTrue result ↔ Contains labels.now.keys label.now }
+fn remove(facts: &mut IndexSet<Literal>, fact: &Literal) -> bool
+    requires { IsDistinct facts.old.keys }
+    ensures found { IsTrue result ↔ Contains facts.old.keys fact.now }
+    ensures dropped { facts.new.keys ≡ filter (λ x. not (literal_eq x fact.now)) facts.old.keys }
 {
-    labels.contains(label)
-}
-
-fn append_label(labels: &mut IndexSet<Name>, label: Name) -> Result<(), Memory>
-    requires { ¬ Contains labels.old.keys label }
-    ensures ok { OnOk result (labels.new.keys ≡ labels.old.keys ++ label ∷ []) }
-    ensures err { OnErr result (labels.new.keys ≡ labels.old.keys) }
-{
-    labels.insert(label)?;
-    Ok(())
-}
-
-fn append_rule(
-    rules: &mut Vec<Rule>,
-    labels: &mut IndexSet<Name>,
-    label: Name,
-    rule: Rule,
-) -> Result<(), Memory>
-    requires { ¬ Contains labels.old.keys label }
-    ensures rules_ok { OnOk result (rules.new.items ≡ rules.old.items ++ rule ∷ []) }
-    ensures labels_ok { OnOk result (labels.new.keys ≡ labels.old.keys ++ label ∷ []) }
-    ensures rules_err { OnErr result (rules.new.items ≡ rules.old.items) }
-    ensures labels_err { OnErr result (labels.new.keys ≡ labels.old.keys) }
-{
-    rules.push(rule)?;
-    match append_label(labels, label) {
-        Ok(()) => Ok(()),
-        Err(stop) => {
-            rules.pop();
-            Err(stop)
-        }
-    }
+    facts.shift_remove(fact)
 }

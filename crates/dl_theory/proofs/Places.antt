@@ -1,0 +1,15 @@
+-- The place of a value in a list, and a removed value.
+use Rattle.std.proofs.Common.{◌≡◌, ◌≢◌, ℕ, Bool, true, false, List, Option, Some, None, get_or, position, is_some, refl, sym, ap, subst, ◌∙◌, true≢false}
+use Rattle.std.specs.Prelude.{Contains, IfSome, IsTrue}
+use Rattle.std.specs.Bool.{Decides}
+use Rattle.std.specs.Set.{is_member}
+use Rattle.std.proofs.lemmas.List.Quantifiers.{position-Some}
+use Rattle.std.proofs.lemmas.Map.Made.{is_member-Decides}
+
+module _ {X : Type 0} (eq : X → X → Bool) (same : (a b : X) → Decides (eq a b) (a ≡ b)) (xs : List X) (x : X) where
+  pub place_has : (place : Option ℕ) (d : X) → place ≡ position (eq x) xs → IfSome place (λ at. get_or xs at d ≡ x)
+  place_has None d e = tt
+  place_has (Some at) d e = sym ((same x (get_or xs at d)).0 (position-Some (eq x) xs at d (sym e)).1)
+
+  pub no_place : (place : Option ℕ) → is_some place ≡ is_member eq xs x → place ≡ None → ¬ Contains xs x
+  no_place place e none m = true≢false (sym ((is_member-Decides same xs x).1 m) ∙ sym e ∙ ap is_some none)

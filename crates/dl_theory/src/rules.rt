@@ -1,0 +1,125 @@
+//! Rules in order, each found by its label.
+
+ghost use Rattle.std.specs.Prelude.{◌≡◌, [], ◌∷◌, ◌++◌, ◌↔◌, ◌<◌, ℕ, IsTrue, OnOk, OnErr, IfErr, IfSome, IfNone, IsSome, Contains, filter, not, map, length, slice_index_or, slice_get};
+ghost use Rattle.std.specs.Option.{option_copied};
+ghost use Rattle.std.specs.Str.{bytes_eq};
+ghost use Rattle.dl_base.specs.Paths.{IsDistinct};
+
+use crate::labels::{append_label, holds_label, place_of};
+use crate::rule::Rule;
+use dl_lit::{Memory, Name};
+use indexmap::IndexSet;
+use std::alloc::Global;
+use std::marker::Model;
+
+/// A list of rules. A label's place among the labels is its rule's place.
+#[derive(Drop)]
+pub(crate) struct Rules {
+    items: Vec<Rule>,
+    labels: IndexSet<Name>,
+}
+
+impl Model for Rules {
+    ghost use Rattle.std.specs.Prelude.{◌≡◌, List, map};
+    ghost use Rattle.dl_theory.specs.declared.rule.Rule.{Rule};
+
+    ghost Value = { List Rule };
+
+    ghost view = { λ r. r.items.items };
+
+    ghost invariant = { λ r. r.labels.keys ≡ map (λ u. u.label) r.items.items };
+}
+
+impl Rules {
+    pub fn make(alloc: Global) -> Rules
+        ensures { result ≡ [] }
+    {
+        Rules {
+            items: Vec::new(alloc),
+            labels: IndexSet::new(alloc),
+        }
+    }
+
+    /// Adds a rule at the end.
+    pub fn push(&mut self, rule: Rule) -> Result<(), Memory>
+        requires { ¬ Contains (map (λ r. r.label) self.old) rule.label }
+        ensures ok { OnOk result (self.new ≡ self.old ++ rule ∷ []) }
+        ensures err { OnErr result (self.new ≡ self.old) }
+    {
+        let label = rule.label.copy()?;
+        append_rule(&mut self.items, &mut self.labels, label, rule)
+    }
+
+    /// Removes the rule with a label; tells whether there was one.
+    pub fn drop_label(&mut self, label: &Name) -> bool
+        requires { IsDistinct (map (λ r. r.label) self.old) }
+        ensures found { IsTrue result ↔ Contains (map (λ r. r.label) self.old) label.now }
+        ensures dropped { self.new ≡ filter (λ r. not (bytes_eq r.label label.now)) self.old }
+    {
+        drop_rule(&mut self.items, &mut self.labels, label)
+    }
+
+    /// Whether a rule has this label.
+    pub fn has(&self, label: &Name) -> bool
+        ensures { IsTrue result ↔ Contains (map (λ r. r.label) self.now) label.now }
+    {
+        holds_label(&self.labels, label)
+    }
+
+    pub fn len(&self) -> usize
+        ensures { result ≡ length self.now }
+    {
+        self.items.len()
+    }
+
+    pub fn get(&self, at: usize) -> Option<&Rule>
+        ensures { option_copied result ≡ slice_get self.now at }
+    {
+        self.items.get(at)
+    }
+
+    pub fn as_slice(&self) -> &[Rule]
+        ensures { result.now ≡ self.now }
+    {
+        self.items.as_slice()
+    }
+}
+
+fn append_rule(
+    rules: &mut Vec<Rule>,
+    labels: &mut IndexSet<Name>,
+    label: Name,
+    rule: Rule,
+) -> Result<(), Memory>
+    requires { ¬ Contains labels.old.keys label }
+    ensures rules_ok { OnOk result (rules.new.items ≡ rules.old.items ++ rule ∷ []) }
+    ensures labels_ok { OnOk result (labels.new.keys ≡ labels.old.keys ++ label ∷ []) }
+    ensures rules_err { OnErr result (rules.new.items ≡ rules.old.items) }
+    ensures labels_err { OnErr result (labels.new.keys ≡ labels.old.keys) }
+{
+    rules.push(rule)?;
+    match append_label(labels, label) {
+        Ok(()) => Ok(()),
+        Err(stop) => {
+            rules.pop();
+            Err(stop)
+        }
+    }
+}
+
+fn drop_rule(rules: &mut Vec<Rule>, labels: &mut IndexSet<Name>, label: &Name) -> bool
+    requires aligned { labels.old.keys ≡ map (λ r. r.label) rules.old.items }
+    requires distinct { IsDistinct labels.old.keys }
+    ensures found { IsTrue result ↔ Contains labels.old.keys label.now }
+    ensures rules { rules.new.items ≡ filter (λ r. not (bytes_eq r.label label.now)) rules.old.items }
+    ensures labels { labels.new.keys ≡ map (λ r. r.label) rules.new.items }
+{
+    match place_of(labels, label) {
+        None => false,
+        Some(at) => {
+            labels.shift_remove_index(at);
+            rules.remove(at);
+            true
+        }
+    }
+}

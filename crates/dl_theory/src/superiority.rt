@@ -1,0 +1,392 @@
+//! Pairs of labels without cycles, over an order of numbers.
+
+ghost use Rattle.std.specs.Prelude.{◌≡◌, [], ◌∷◌, ◌++◌, ◌↔◌, ◌<◌, ◌≤◌, ◌||◌, ℕ, List, IsTrue, OnOk, OnErr, IfOk, IfErr, Contains, All, filter, not, map, length, slice_get};
+ghost use Rattle.std.specs.Option.{option_copied};
+ghost use Rattle.std.specs.Str.{bytes_eq};
+ghost use Rattle.dl_base.specs.Paths.{IsDistinct};
+ghost use Rattle.dl_sup.specs.Links.{names_item};
+ghost use Rattle.dl_sup.specs.Adding.{ClosesCycle};
+ghost use Rattle.dl_theory.specs.Pairs.{pair_eq, Closes, label_at, IsWithin, IsNumbered, IsNumberOf};
+ghost use Rattle.dl_theory.specs.Superiority.{IsPairStop, IsLinkStop, AddsAll, OrdersAll};
+ghost use Rattle.std.specs.Option.{option_map_or};
+
+use crate::lists::Path;
+use crate::rule::Pair;
+use crate::labels::{append_label, place_of};
+use crate::theory::LIMIT;
+use dl_lit::{Memory, Name};
+use dl_sup::{Link, LoadStop, Order, SupStop};
+use indexmap::IndexSet;
+use std::alloc::Global;
+use std::marker::Model;
+
+/// Why a pair was not added whose labels are there and which is not in the list.
+#[derive(Drop)]
+pub(crate) enum PairStop {
+    Cycle(Path),
+    Full,
+    Memory,
+}
+
+/// Why a pair of several was not added.
+#[derive(Drop)]
+pub(crate) enum PairCause {
+    There,
+    Cycle(Path),
+    Full,
+}
+
+/// The first pair of several that was not added.
+#[derive(Drop)]
+pub(crate) struct PairRefused {
+    pub at: usize,
+    pub cause: PairCause,
+}
+
+impl From<Memory> for PairStop {
+    ghost use Rattle.std.specs.Prelude.{◌≡◌};
+    ghost use Rattle.dl_theory.specs.declared.superiority.PairStop.{PairStop};
+
+    ghost from_gives = { λ _ stop. stop ≡ PairStop.Memory };
+
+    fn from(_: Memory) -> PairStop {
+        PairStop::Memory
+    }
+}
+
+/// A list of pairs. Each label that ever stood in a pair has its place among the items,
+/// and the order has, for each pair, the places of its labels.
+#[derive(Drop)]
+pub(crate) struct Superiority {
+    pairs: IndexSet<Pair>,
+    items: IndexSet<Name>,
+    order: Order,
+}
+
+impl Model for Superiority {
+    ghost use Rattle.std.specs.Prelude.{List};
+    ghost use Rattle.dl_theory.specs.declared.rule.Pair.{Pair};
+
+    ghost Value = { List Pair };
+
+    ghost use Rattle.dl_theory.specs.KeptPairs.{IsKept};
+
+    ghost view = { λ s. s.pairs.keys };
+
+    ghost invariant = { IsKept };
+}
+
+impl Superiority {
+    pub fn make(alloc: Global) -> Superiority
+        ensures { result ≡ [] }
+    {
+        Superiority {
+            pairs: IndexSet::new(alloc),
+            items: IndexSet::new(alloc),
+            order: Order::make(alloc),
+        }
+    }
+
+    /// Adds a pair at the end, or says why not.
+    pub fn add(&mut self, pair: Pair) -> Result<(), PairStop>
+        requires { ¬ Contains self.old pair }
+        ensures accepted { OnOk result (¬ Closes self.old pair) }
+        ensures room { OnOk result (length self.old < 1000000) }
+        ensures added { OnOk result (self.new ≡ self.old ++ pair ∷ []) }
+        ensures stopped { IfErr result (IsPairStop self.old pair) }
+        ensures kept { OnErr result (self.new ≡ self.old) }
+    {
+        let alloc = *self.pairs.allocator();
+        let link = number_pair(&mut self.items, &pair)?;
+        add_numbered(
+            alloc,
+            &mut self.pairs,
+            self.items.as_slice(),
+            &mut self.order,
+            pair,
+            link,
+        )
+    }
+
+    /// The pairs of a list, or those before the first that is refused.
+    pub fn load(
+        alloc: Global,
+        pairs: &[Pair],
+    ) -> Result<(Superiority, Option<PairRefused>), Memory>
+        ensures { IfOk result (λ r. AddsAll [] r.0 pairs.now r.1) }
+    {
+        let mut items = IndexSet::new(alloc);
+        let links = number_all(alloc, &mut items, pairs)?;
+        let (order, refused) = order_of(alloc, items.as_slice(), links.as_slice())?;
+        let kept = kept_len(&refused, pairs.len());
+        let pairs = collect_pairs(alloc, &pairs[..kept])?;
+        Ok((
+            Superiority {
+                pairs,
+                items,
+                order,
+            },
+            refused,
+        ))
+    }
+
+    /// Removes a pair; tells whether it was there.
+    pub fn drop_pair(&mut self, pair: &Pair) -> bool
+        requires { IsDistinct self.old }
+        ensures found { IsTrue result ↔ Contains self.old pair.now }
+        ensures dropped { self.new ≡ filter (λ p. not (pair_eq p pair.now)) self.old }
+    {
+        drop_numbered(&mut self.pairs, &self.items, &mut self.order, pair)
+    }
+
+    /// Removes the pairs that name a label.
+    pub fn drop_label(&mut self, label: &Name)
+        ensures { self.new ≡ filter (λ p. not (bytes_eq p.upper label.now || bytes_eq p.lower label.now)) self.old }
+    {
+        if let Some(item) = place_of(&self.items, label) {
+            drop_naming(&mut self.pairs, &mut self.order, label, item);
+        }
+    }
+
+    /// Whether a pair is in the list.
+    pub fn has(&self, pair: &Pair) -> bool
+        ensures { IsTrue result ↔ Contains self.now pair.now }
+    {
+        holds_pair(&self.pairs, pair)
+    }
+
+    pub fn len(&self) -> usize
+        ensures { result ≡ length self.now }
+    {
+        self.pairs.len()
+    }
+
+    pub fn get(&self, at: usize) -> Option<&Pair>
+        ensures { option_copied result ≡ slice_get self.now at }
+    {
+        self.pairs.get_index(at)
+    }
+
+    pub fn as_slice(&self) -> &[Pair]
+        ensures { result.now ≡ self.now }
+    {
+        self.pairs.as_slice()
+    }
+}
+
+fn holds_pair(pairs: &IndexSet<Pair>, pair: &Pair) -> bool
+    ensures { IsTrue result ↔ Contains pairs.now.keys pair.now }
+{
+    pairs.contains(pair)
+}
+
+/// The place of a label among the items, which may grow.
+fn number(items: &mut IndexSet<Name>, label: &Name) -> Result<usize, Memory>
+    requires { IsDistinct items.old.keys }
+    ensures distinct { IsDistinct items.new.keys }
+    ensures grown { (more : List (List ℕ)) × (items.new.keys ≡ items.old.keys ++ more) }
+    ensures within { IfOk result (λ n. n < length items.new.keys) }
+    ensures names { IfOk result (λ n. label_at items.new.keys n ≡ label.now) }
+{
+    if let Some(at) = place_of(items, label) {
+        return Ok(at);
+    }
+    let label = label.copy()?;
+    let at = items.len();
+    append_label(items, label)?;
+    Ok(at)
+}
+
+/// The places of both labels of a pair.
+fn number_pair(items: &mut IndexSet<Name>, pair: &Pair) -> Result<Link, Memory>
+    requires { IsDistinct items.old.keys }
+    ensures distinct { IsDistinct items.new.keys }
+    ensures grown { (more : List (List ℕ)) × (items.new.keys ≡ items.old.keys ++ more) }
+    ensures number { IfOk result (λ l. IsNumberOf items.new.keys l pair.now) }
+{
+    let upper = number(items, &pair.upper)?;
+    let lower = number(items, &pair.lower)?;
+    Ok(Link { upper, lower })
+}
+
+fn number_all(
+    alloc: Global,
+    items: &mut IndexSet<Name>,
+    pairs: &[Pair],
+) -> Result<Vec<Link>, Memory>
+    requires { IsDistinct items.old.keys }
+    ensures { IfOk result (λ links. IsNumbered items.new.keys links.items pairs.now) }
+{
+    let mut links = Vec::new(alloc);
+    for pair in pairs {
+        links.push(number_pair(items, pair)?)?;
+    }
+    Ok(links)
+}
+
+/// An order of pairs of numbers, or of those before the first that is refused.
+fn order_of(
+    alloc: Global,
+    items: &[Name],
+    links: &[Link],
+) -> Result<(Order, Option<PairRefused>), Memory>
+    requires { All (IsWithin items.now) links.now }
+    ensures { IfOk result (λ r. OrdersAll items.now r.0 links.now r.1) }
+{
+    let mut order = Order::make(alloc);
+    match order.add_all(links) {
+        Ok(()) => Ok((order, None)),
+        Err(LoadStop::There { at }) => {
+            let cause = PairCause::There;
+            Ok((order, Some(PairRefused { at, cause })))
+        }
+        Err(LoadStop::Cycle { at, track }) => {
+            let cause = PairCause::Cycle(path_of(alloc, items, track.as_slice())?);
+            Ok((order, Some(PairRefused { at, cause })))
+        }
+        Err(LoadStop::Memory) => Err(Memory),
+    }
+}
+
+/// How many pairs come before the one that is refused.
+fn kept_len(refused: &Option<PairRefused>, len: usize) -> usize
+    ensures { result ≡ option_map_or (λ r. r.at) refused.now len }
+{
+    match refused {
+        None => len,
+        Some(refused) => refused.at,
+    }
+}
+
+fn collect_pairs(alloc: Global, pairs: &[Pair]) -> Result<IndexSet<Pair>, Memory>
+    requires { IsDistinct pairs.now }
+    ensures { IfOk result (λ set. set.keys ≡ pairs.now) }
+{
+    let mut set = IndexSet::new(alloc);
+    for pair in pairs {
+        insert_pair(&mut set, pair.copy()?)?;
+    }
+    Ok(set)
+}
+
+/// The labels of a track of numbers.
+fn path_of(alloc: Global, items: &[Name], track: &[usize]) -> Result<Path, Memory>
+    requires { All (λ n. n < length items.now) track.now }
+    ensures { IfOk result (λ path. path ≡ map (label_at items.now) track.now) }
+{
+    let mut path = Path::make(alloc);
+    for n in track {
+        path.push(items[*n].copy()?)?;
+    }
+    Ok(path)
+}
+
+/// Adds a pair of numbers.
+fn add_link(alloc: Global, items: &[Name], order: &mut Order, link: Link) -> Result<(), PairStop>
+    requires new { ¬ Contains order.old link }
+    requires within { All (IsWithin items.now) order.old }
+    requires link_within { IsWithin items.now link }
+    ensures accepted { OnOk result (¬ ClosesCycle order.old link) }
+    ensures added { OnOk result (order.new ≡ order.old ++ link ∷ []) }
+    ensures stopped { IfErr result (IsLinkStop items.now order.old link) }
+    ensures kept { OnErr result (order.new ≡ order.old) }
+{
+    match order.add(link.upper, link.lower) {
+        Ok(()) => Ok(()),
+        Err(SupStop::There) => unreachable!(),
+        Err(SupStop::Cycle(track)) => Err(PairStop::Cycle(path_of(alloc, items, track.as_slice())?)),
+        Err(SupStop::Memory) => Err(PairStop::Memory),
+    }
+}
+
+fn append_pair(pairs: &mut IndexSet<Pair>, pair: Pair) -> Result<(), PairStop>
+    requires { ¬ Contains pairs.old.keys pair }
+    ensures room { OnOk result (length pairs.old.keys < 1000000) }
+    ensures ok { OnOk result (pairs.new.keys ≡ pairs.old.keys ++ pair ∷ []) }
+    ensures full { result ≡ Err PairStop.Full → 1000000 ≤ length pairs.old.keys }
+    ensures no_cycle { (path : List (List ℕ)) → ¬ (result ≡ Err (PairStop.Cycle path)) }
+    ensures err { OnErr result (pairs.new.keys ≡ pairs.old.keys) }
+{
+    if pairs.len() >= LIMIT {
+        return Err(PairStop::Full);
+    }
+    insert_pair(pairs, pair)?;
+    Ok(())
+}
+
+fn insert_pair(pairs: &mut IndexSet<Pair>, pair: Pair) -> Result<(), Memory>
+    requires { ¬ Contains pairs.old.keys pair }
+    ensures ok { OnOk result (pairs.new.keys ≡ pairs.old.keys ++ pair ∷ []) }
+    ensures err { OnErr result (pairs.new.keys ≡ pairs.old.keys) }
+{
+    pairs.insert(pair)?;
+    Ok(())
+}
+
+/// Adds a pair and its numbers, or neither.
+fn add_numbered(
+    alloc: Global,
+    pairs: &mut IndexSet<Pair>,
+    items: &[Name],
+    order: &mut Order,
+    pair: Pair,
+    link: Link,
+) -> Result<(), PairStop>
+    requires numbered { IsNumbered items.now order.old pairs.old.keys }
+    requires number { IsNumberOf items.now link pair }
+    requires new { ¬ Contains pairs.old.keys pair }
+    ensures numbered { IsNumbered items.now order.new pairs.new.keys }
+    ensures accepted { OnOk result (¬ Closes pairs.old.keys pair) }
+    ensures room { OnOk result (length pairs.old.keys < 1000000) }
+    ensures added { OnOk result (pairs.new.keys ≡ pairs.old.keys ++ pair ∷ []) }
+    ensures stopped { IfErr result (IsPairStop pairs.old.keys pair) }
+    ensures kept { OnErr result (pairs.new.keys ≡ pairs.old.keys) }
+{
+    match add_link(alloc, items, order, link) {
+        Err(stop) => Err(stop),
+        Ok(()) => match append_pair(pairs, pair) {
+            Ok(()) => Ok(()),
+            Err(stop) => {
+                let _ = order.drop_pair(link.upper, link.lower);
+                Err(stop)
+            }
+        },
+    }
+}
+
+fn drop_numbered(
+    pairs: &mut IndexSet<Pair>,
+    items: &IndexSet<Name>,
+    order: &mut Order,
+    pair: &Pair,
+) -> bool
+    requires distinct { IsDistinct pairs.old.keys }
+    requires numbered { IsNumbered items.now.keys order.old pairs.old.keys }
+    ensures numbered { IsNumbered items.now.keys order.new pairs.new.keys }
+    ensures found { IsTrue result ↔ Contains pairs.old.keys pair.now }
+    ensures dropped { pairs.new.keys ≡ filter (λ p. not (pair_eq p pair.now)) pairs.old.keys }
+{
+    let found = remove_pair(pairs, pair);
+    if let Some(upper) = place_of(items, &pair.upper) {
+        if let Some(lower) = place_of(items, &pair.lower) {
+            let _ = order.drop_pair(upper, lower);
+        }
+    }
+    found
+}
+
+fn remove_pair(pairs: &mut IndexSet<Pair>, pair: &Pair) -> bool
+    requires { IsDistinct pairs.old.keys }
+    ensures found { IsTrue result ↔ Contains pairs.old.keys pair.now }
+    ensures dropped { pairs.new.keys ≡ filter (λ p. not (pair_eq p pair.now)) pairs.old.keys }
+{
+    pairs.shift_remove(pair)
+}
+
+fn drop_naming(pairs: &mut IndexSet<Pair>, order: &mut Order, label: &Name, item: usize)
+    ensures pairs { pairs.new.keys ≡ filter (λ p. not (bytes_eq p.upper label.now || bytes_eq p.lower label.now)) pairs.old.keys }
+    ensures links { order.new ≡ filter (λ l. not (names_item item l)) order.old }
+{
+    pairs.retain(|p| !(p.upper == *label || p.lower == *label));
+    order.drop_item(item);
+}
