@@ -1,1 +1,139 @@
 //! Rows over a house in memory.
+
+use crate::{Status, run};
+use dl_io::MemoryHouse;
+use std::alloc::Global;
+use std::sync::Wait;
+use std::test::Fail;
+use std::thread::Threads;
+
+fn words_of(alloc: Global, words: &[&str]) -> Result<Vec<String>, Fail> {
+    let mut all = Vec::new(alloc);
+    for word in words {
+        all.push(String::from_str(alloc, word)?)?;
+    }
+    Ok(all)
+}
+
+// How the program ends on these words, and what stands on standard output then. The file `t` has these bytes; reads of
+// it and writes to standard output fail at these calls.
+fn said<R: Threads + Wait + Sync>(
+    rt: &R,
+    alloc: Global,
+    words: &[&str],
+    file: &[u8],
+    read_fails: &[usize],
+    write_fails: &[usize],
+) -> Result<(Status, Vec<u8>), Fail> {
+    let dash = String::from_str(alloc, "-")?;
+    let mut house = MemoryHouse::make(alloc);
+    let name = String::from_str(alloc, "t")?;
+    house.put(
+        name,
+        file.to_vec(alloc)?,
+        read_fails.to_vec(alloc)?,
+        Vec::new(alloc),
+    )?;
+    house.put(
+        dash.clone()?,
+        Vec::new(alloc),
+        Vec::new(alloc),
+        write_fails.to_vec(alloc)?,
+    )?;
+    let words = words_of(alloc, words)?;
+    let status = run(rt, alloc, &words, &mut house);
+    let text = house
+        .wrote(&dash)
+        .ok_or("nothing was settled")?
+        .to_vec(alloc)?;
+    Ok((status, text))
+}
+
+const CONCLUDE: &[&str] = &["conclude", "D", "t"];
+const PRINT: &[&str] = &["print", "t"];
+
+struct Row {
+    words: &'static [&'static str],
+    file: &'static [u8],
+    status: Status,
+    text: &'static [u8],
+}
+
+fn row(
+    words: &'static [&'static str],
+    file: &'static str,
+    status: Status,
+    text: &'static str,
+) -> Row {
+    Row {
+        words,
+        file: file.as_bytes(),
+        status,
+        text: text.as_bytes(),
+    }
+}
+
+#[test]
+fn files_are_answered(rt: HostRuntime) -> Result<(), Fail> {
+    let rows = [
+        row(CONCLUDE, ">> penguin\nr1: penguin -> bird\nr2: bird -> animal\n", Status::Done,
+            "+D animal\n-D -animal\n+D bird\n-D -bird\n+D penguin\n-D -penguin\n"),
+        row(CONCLUDE, "r: p -> p", Status::Done, "?D p\n-D -p\n"),
+        row(CONCLUDE, "", Status::Done, ""),
+        row(CONCLUDE, "r1: p => q # (X)\n", Status::Done, "-D p\n-D -p\n-D q\n-D -q\n"),
+        row(CONCLUDE, ">> p\n>> -p\n", Status::Done, "+D p\n+D -p\n"),
+        row(CONCLUDE, ">> a\n>> a\n", Status::Refused, "refused line 2 fact\n"),
+        row(CONCLUDE, "r: -> a\nr: -> b\n", Status::Refused, "refused line 2 label r\n"),
+        row(CONCLUDE, "r1: p(X) => q\n", Status::Refused, "refused line 1 variables\n"),
+        row(CONCLUDE, "# 1\n>> 1\n", Status::Refused, "refused line 2 form\n"),
+        row(CONCLUDE, "r > s\n", Status::Refused, "refused line 1 unknown r\n"),
+        row(PRINT, "r[O]: => pay\n", Status::Done, "r: => [O]pay\n"),
+        row(PRINT, "# notes\r\n  a,b=>-c   # body\r\n>>a\r\nr[O]: -> pay\r\nr > _2\r\n", Status::Done,
+            ">> a\n_2: a, b => -c\nr: -> [O]pay\nr > _2\n"),
+        row(PRINT, "r1: => p\nr2: => -p\nr1 > r2\nr2 > r1\n", Status::Refused, "refused line 4 cycle r1 r2\n"),
+        row(PRINT, "r: => p\nr > r\n", Status::Refused, "refused line 2 cycle r\n"),
+    ];
+    for row in rows.iter() {
+        let (status, text) = said(&rt, rt.alloc(), row.words, row.file, &[], &[])?;
+        assert_eq!(rt; text.as_slice(), row.text);
+        assert_eq!(rt; status, row.status);
+    }
+    Ok(())
+}
+
+const USAGE: &str = "usage: ddl conclude F FILE, print FILE, check THEORY CERT, gen N SIZE, serve THEORY NAME [NAME ...]\n";
+
+#[test]
+fn words_of_no_form_get_the_usage_line(rt: HostRuntime) -> Result<(), Fail> {
+    let rows: [&[&str]; 6] = [
+        &[],
+        &["conclude", "x", "t"],
+        &["conclude", "D"],
+        &["conclude", "D", ""],
+        &["print", ""],
+        &["--help"],
+    ];
+    for words in rows.iter() {
+        let (status, text) = said(&rt, rt.alloc(), words, b"", &[], &[])?;
+        assert_eq!(rt; text.as_slice(), USAGE.as_bytes());
+        assert_eq!(rt; status, Status::Usage);
+    }
+    Ok(())
+}
+
+#[test]
+fn a_fault_is_a_fault(rt: HostRuntime) -> Result<(), Fail> {
+    // No file of that name.
+    let (status, text) = said(&rt, rt.alloc(), &["print", "u"], b"", &[], &[])?;
+    assert_eq!(rt; status, Status::Fault);
+    assert_eq!(rt; text.len(), 0);
+    // The second read fails.
+    let (status, text) = said(&rt, rt.alloc(), PRINT, b">> a\n", &[1], &[])?;
+    assert_eq!(rt; status, Status::Fault);
+    assert_eq!(rt; text.len(), 0);
+    // The second write fails: what was written stays.
+    let (status, text) = said(&rt, rt.alloc(), PRINT, b">> a\n", &[], &[1])?;
+    assert_eq!(rt; status, Status::Fault);
+    assert_eq!(rt; text.as_slice(), b">> ".as_slice());
+    Ok(())
+}

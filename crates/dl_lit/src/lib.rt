@@ -3,6 +3,8 @@
 
 mod literal;
 mod name;
+#[cfg(test)]
+mod tests;
 mod text;
 
 pub use dl_base::Memory;
