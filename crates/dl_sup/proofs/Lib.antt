@@ -1,1 +1,4 @@
 pub mod Links
+pub mod LinkLemmas
+pub mod Slots
+pub mod VisitLemmas

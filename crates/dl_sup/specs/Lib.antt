@@ -1,2 +1,4 @@
 pub mod Links
+pub mod Slots
+pub mod Searching
 pub mod Adding

@@ -1,7 +1,7 @@
 use Rattle.std.proofs.Common.{List, sym, ap, subst, ◌∙◌, rules}
 use Rattle.std.specs.Prelude.{filter, not, ◌==◌, ◌&&◌}
 use Rattle.std.proofs.lemmas.Fn.{filter_same}
-use Rattle.dl_sup.specs.declared.order.Link.{Link}
+use Rattle.dl_sup.specs.declared.link.Link.{Link}
 use Rattle.dl_sup.specs.Links.{IsOrder}
 use Rattle.dl_sup.proofs.Links.{IsOrder-filter}
 use Rattle.dl_sup.proofs.order.Order.drop_pair.Goals as goal
