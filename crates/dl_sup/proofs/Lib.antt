@@ -2,3 +2,4 @@ pub mod Links
 pub mod LinkLemmas
 pub mod Slots
 pub mod VisitLemmas
+pub mod Fronts
