@@ -1,6 +1,6 @@
 -- A search along pairs.
 use Rattle.std.specs.Prelude.{◌≡◌, ℕ, zero, suc, ◌+◌, ◌-◌, ◌*◌, ◌<◌, ◌≤◌, List, [], ◌∷◌, ◌++◌, map, length, get_or, All, Contains, ◌⊎◌, Option, None, Some, true}
-use Rattle.dl_base.specs.Paths.{IsDistinct}
+use Rattle.dl_base.specs.Paths.{IsDistinct, Descends, last_of}
 use Rattle.dl_sup.specs.declared.link.Link.{Link}
 use Rattle.dl_sup.specs.declared.slot.Slot.{Slot}
 use Rattle.dl_sup.specs.declared.front.Front.{Front}
@@ -62,3 +62,41 @@ pub record Follows (way : Way) (s : Slot) (old new : Front) (met : Option ℕ) :
   pub next : new.next ≡ old.next
   pub cursor : new.cursor ≡ older way s
   pub meets : Meets way s old new met
+
+-- each item was met from an earlier one
+abbrev pub Falls : List (ℕ × ℕ) → Type 0
+Falls visits = (k : ℕ) → 0 < k → k < length visits → from_at visits k < k
+
+-- the items from which a search came to a place, at most n of them
+abbrev pub trail_by : ℕ → List (ℕ × ℕ) → ℕ → List ℕ
+trail_by zero visits at = []
+trail_by (suc n) visits zero = []
+trail_by (suc n) visits (suc at) = item_at visits (from_at visits (suc at)) ∷ trail_by n visits (from_at visits (suc at))
+
+abbrev pub trail : List (ℕ × ℕ) → ℕ → List ℕ
+trail visits at = trail_by at visits at
+
+-- from an item down to another one, by pairs
+pub record IsWalk (pairs : List Link) (first last : ℕ) (track : List ℕ) : Type 0 where
+  pub rest : List ℕ
+  pub begins : track ≡ first ∷ rest
+  pub ends : last_of (IsOver pairs) first rest ≡ last
+  pub descends : Descends (IsOver pairs) first rest
+
+-- items that no pair leads out of, downwards
+pub record ClosedBelow (pairs : List Link) (from to : ℕ) : Type 0 where
+  pub seen : List ℕ
+  pub has : Contains seen from
+  pub lacks : ¬ Contains seen to
+  pub closed : (x y : ℕ) → Contains seen x → IsOver pairs x y → Contains seen y
+
+-- and upwards
+pub record ClosedAbove (pairs : List Link) (from to : ℕ) : Type 0 where
+  pub seen : List ℕ
+  pub has : Contains seen to
+  pub lacks : ¬ Contains seen from
+  pub closed : (x y : ℕ) → Contains seen y → IsOver pairs x y → Contains seen x
+
+-- no pairs lead from the one down to the other
+abbrev pub IsApart : List Link → ℕ → ℕ → Type 0
+IsApart pairs from to = ClosedBelow pairs from to ⊎ ClosedAbove pairs from to
