@@ -3,3 +3,4 @@ pub mod LinkLemmas
 pub mod Slots
 pub mod VisitLemmas
 pub mod Fronts
+pub mod Walks
