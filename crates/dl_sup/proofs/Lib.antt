@@ -4,3 +4,4 @@ pub mod Slots
 pub mod VisitLemmas
 pub mod Fronts
 pub mod Walks
+pub mod Cycles

@@ -1,9 +1,9 @@
 -- Pairs at places that never move: one goes, one comes.
-use Rattle.std.proofs.Common.{◌≡◌, ◌≢◌, ℕ, zero, suc, ◌+◌, ◌<◌, ◌≤◌, Bool, true, false, cond, List, [], ◌∷◌, ◌++◌, Option, None, Some, is_some, length, get_or, set, map, inl, inr, ◌⊎◌, refl, sym, ap, subst, ◌∙◌, arith, true≢false, get_or-set_same, get_or-set_other, length-append, length-set}
+use Rattle.std.proofs.Common.{◌≡◌, ◌≢◌, ℕ, zero, suc, ◌+◌, ◌<◌, ◌≤◌, Bool, true, false, cond, List, [], ◌∷◌, ◌++◌, Option, None, Some, is_some, take, length, get_or, set, map, inl, inr, ◌⊎◌, refl, sym, ap, subst, ◌∙◌, arith, true≢false, get_or-set_same, get_or-set_other, length-append, length-set}
 use Rattle.std.specs.Prelude.{filter, Contains, not, ◌==◌, ◌↔◌, IsTrue, MatchOption}
 use Rattle.std.specs.Bool.{Decides}
 use Rattle.std.proofs.lemmas.Bool.Decides.{Decides-eqb}
-use Rattle.std.proofs.lemmas.List.{get_or_past, append-nil, get_or_push, get_or_append_left, map-append, set_at, get_or_default}
+use Rattle.std.proofs.lemmas.List.{take_more, length-take-le, get_or-take, get_or_past, append-nil, get_or_push, get_or_append_left, map-append, set_at, get_or_default}
 use Rattle.std.proofs.lemmas.List.Elements.{All-weaker, All-contains_itself, filter-append, Contains-append_right}
 use Rattle.std.proofs.lemmas.Bool.{cases_eq, cases_lt}
 use Rattle.dl_sup.specs.declared.link.Link.{Link}
@@ -312,3 +312,23 @@ raised old new item n put q = raised_by (item == q) n (head_of old q) (head_of n
 pub raised_here : (old new : List (ℕ × ℕ)) (item n : ℕ) → ((q : ℕ) → head_of new q ≡ cond (item == q) (n + 1) (head_of old q)) → n < head_of new item
 raised_here old new item n put =
     omega (arith, put item ∙ ap (λ (b : Bool). cond b (n + 1) (head_of old item)) (alike item item refl))
+
+-- ---- one place after another
+pub live_more : (slots : List Slot) (i : ℕ) (s : Slot) → i < length slots → s ≡ slot_at slots i → live (take (i + 1) slots) ≡ live (take i slots) ++ live (s ∷ [])
+live_more slots i s within read =
+    ap live (take_more slots i no_slot within)
+    ∙ ap (map (λ (x : Slot). x.link)) (filter-append (λ x. x.alive) (take i slots) (slot_at slots i ∷ []))
+    ∙ map-append (λ (x : Slot). x.link) (filter (λ x. x.alive) (take i slots)) (filter (λ x. x.alive) (slot_at slots i ∷ []))
+    ∙ ap (λ (x : Slot). live (take i slots) ++ live (x ∷ [])) (sym read)
+
+pub new_to_front : (slots : List Slot) (places : List (Link × ℕ)) (i : ℕ) → ((t : ℕ) → IsAlive slots t → place_of places (slot_at slots t).link ≡ Some t)
+    → i < length slots → IsAlive slots i → ¬ Contains (live (take i slots)) (slot_at slots i).link
+new_to_front slots places i found within a m =
+    let s = live_from (take i slots) (slot_at slots i).link m in
+    let before : s.0 < i = omega (arith, alive_within (take i slots) s.0 s.1, length-take-le i slots (omega (arith, within))) in
+    let same : slot_at (take i slots) s.0 ≡ slot_at slots s.0 = get_or-take i slots s.0 no_slot before in
+    let placed : place_of places (slot_at slots i).link ≡ Some s.0 =
+    ap (place_of places) (sym s.2 ∙ ap (λ (x : Slot). x.link) same) ∙ found s.0 (sym (ap (λ (x : Slot). x.alive) same) ∙ s.1) in
+    let own = found i a in
+    let e : s.0 ≡ i = cc (placed, own) in
+    omega (arith, e, before)

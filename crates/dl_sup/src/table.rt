@@ -5,7 +5,9 @@ ghost use Rattle.std.specs.Prelude.{◌≡◌, ℕ, ◌<◌, ◌≢◌, [], ◌�
 use crate::heads::Heads;
 use crate::link::Link;
 use crate::places::Places;
-use crate::slot::{Slot, Way, near, older};
+use crate::search::search;
+use crate::slot::{Slot, Way, older};
+use crate::track::Track;
 use dl_base::Memory;
 use std::alloc::Global;
 use std::marker::Model;
@@ -19,6 +21,8 @@ pub(crate) struct Table {
     downs: Heads,
     /// The chains of lower items.
     ups: Heads,
+    /// How many places were emptied since the last `tidy`, or more.
+    gone: usize,
 }
 
 impl Model for Table {
@@ -36,6 +40,7 @@ impl Model for Table {
 
 impl Table {
     ghost use Rattle.dl_sup.specs.Links.{names_item, link, same_link};
+    ghost use Rattle.dl_sup.specs.Searching.{IsApart, IsWalk};
 
     pub(crate) fn make(alloc: Global) -> Table
         ensures { result ≡ [] }
@@ -45,7 +50,27 @@ impl Table {
             places: Places::make(alloc),
             downs: Heads::make(alloc),
             ups: Heads::make(alloc),
+            gone: 0,
         }
+    }
+
+    pub(crate) fn alloc(&self) -> Global {
+        *self.slots.allocator()
+    }
+
+    /// A path from an item down to another one, where there is one.
+    pub(crate) fn path(&self, from: usize, to: usize) -> Result<Option<Track>, Memory>
+        requires { from ≢ to }
+        ensures { IfOk result (λ found. MatchOption found (IsApart self.now from to) (IsWalk self.now from to)) }
+    {
+        search(
+            self.alloc(),
+            self.slots.as_slice(),
+            &self.downs,
+            &self.ups,
+            from,
+            to,
+        )
     }
 
     pub(crate) fn has(&self, pair: Link) -> bool
@@ -85,6 +110,7 @@ impl Table {
             Some(at) => {
                 let slot = &mut self.slots[at];
                 slot.alive = false;
+                self.gone = self.gone.saturating_add(1);
                 true
             }
         }
@@ -94,14 +120,37 @@ impl Table {
     pub(crate) fn drop_item(&mut self, item: usize)
         ensures { self.new ≡ filter (λ p. not (names_item item p)) self.old }
     {
-        drop_chain(&mut self.slots, Way::Down, &self.downs, item);
-        drop_chain(&mut self.slots, Way::Up, &self.ups, item);
+        let below = drop_chain(&mut self.slots, Way::Down, &self.downs, item);
+        let over = drop_chain(&mut self.slots, Way::Up, &self.ups, item);
+        self.gone = self.gone.saturating_add(below).saturating_add(over);
+    }
+
+    /// The same pairs at places without gaps.
+    pub(crate) fn copy(&self) -> Result<Table, Memory>
+        ensures { IfOk result (λ table. table ≡ self.now) }
+    {
+        let mut fresh = Table::make(self.alloc());
+        for slot in self.slots.iter() {
+            put_slot(&mut fresh, *slot)?;
+        }
+        Ok(fresh)
+    }
+
+    /// Closes the gaps, where more than half of the places are empty.
+    pub(crate) fn tidy(&mut self) -> Result<(), Memory>
+        ensures { self.new ≡ self.old }
+    {
+        if self.gone > self.slots.len() / 2 {
+            let fresh = self.copy()?;
+            *self = fresh;
+        }
+        Ok(())
     }
 }
 
 ghost use Rattle.dl_sup.specs.Slots.{near as near_of, live, slot_at, IsAlive, IsChained, KeepsSlots, IsFoundAt, place_of};
 ghost use Rattle.dl_sup.specs.Links.{names_item as names};
-ghost use Rattle.std.specs.Prelude.{Some};
+ghost use Rattle.std.specs.Prelude.{Some, true};
 
 /// The place of a pair that is there.
 fn find(slots: &[Slot], places: &Places, pair: Link) -> Option<usize>
@@ -123,17 +172,31 @@ fn find(slots: &[Slot], places: &Places, pair: Link) -> Option<usize>
     }
 }
 
-/// Removes the pairs on the chain of an item.
-fn drop_chain(slots: &mut Vec<Slot>, way: Way, heads: &Heads, item: usize)
+/// Adds the pair of a place, if it is there.
+fn put_slot(table: &mut Table, slot: Slot) -> Result<(), Memory>
+    requires { slot.alive ≡ true → ¬ Contains table.old slot.link }
+    ensures { OnOk result (table.new ≡ table.old ++ live (slot ∷ [])) }
+{
+    if slot.alive {
+        table.put(slot.link)?;
+    }
+    Ok(())
+}
+
+/// Removes the pairs on the chain of an item, and says how long it was.
+fn drop_chain(slots: &mut Vec<Slot>, way: Way, heads: &Heads, item: usize) -> usize
     requires { IsChained way slots.old.items heads.now }
     ensures gone { (t : ℕ) → IsAlive slots.new.items t → near_of way (slot_at slots.new.items t) ≢ item }
     ensures rest { filter (λ p. not (names item p)) (live slots.new.items) ≡ filter (λ p. not (names item p)) (live slots.old.items) }
     ensures keeps { KeepsSlots slots.old.items slots.new.items }
 {
+    let mut length = 0usize;
     let mut cursor = heads.get(item);
     while cursor > 0 {
         let slot = &mut slots[cursor - 1];
         slot.alive = false;
         cursor = older(way, *slot);
+        length = length.saturating_add(1);
     }
+    length
 }

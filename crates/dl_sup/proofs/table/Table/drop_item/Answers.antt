@@ -9,11 +9,11 @@ use Rattle.dl_sup.proofs.table.Table.drop_item.Goals as goal
 
 pub returns : goal.returns
 returns c =
-    let first = c.drop_chain.new.slots.items in
-    let last = c.drop_chain-2.new.slots.items in
+    let first = c.drop_chain-below.new.slots.items in
+    let last = c.drop_chain-over.new.slots.items in
     sym (none_names last c.args.item
-    (λ t a e. c.drop_chain.ensures.gone t (c.drop_chain-2.ensures.keeps.alive t a) (sym (near_same Down first last t c.drop_chain-2.ensures.keeps) ∙ e))
-    c.drop_chain-2.ensures.gone)
-    ∙ c.drop_chain-2.ensures.rest
-    ∙ c.drop_chain.ensures.rest
+    (λ t a e. c.drop_chain-below.ensures.gone t (c.drop_chain-over.ensures.keeps.alive t a) (sym (near_same Down first last t c.drop_chain-over.ensures.keeps) ∙ e))
+    c.drop_chain-over.ensures.gone)
+    ∙ c.drop_chain-over.ensures.rest
+    ∙ c.drop_chain-below.ensures.rest
     ∙ ap (λ (ps : List Link). filter (λ p. not (names_item c.args.item p)) ps) c.self.view_is
