@@ -2,7 +2,7 @@
 use Rattle.std.proofs.lemmas.List.Kept.{AllPairs-filter}
 use Rattle.std.proofs.Common.{◌≢◌, Bool, List}
 use Rattle.std.specs.Prelude.{filter}
-use Rattle.dl_sup.specs.declared.order.Link.{Link}
+use Rattle.dl_sup.specs.declared.link.Link.{Link}
 use Rattle.dl_sup.specs.Links.{IsOrder, IsOver, link}
 use Rattle.dl_base.proofs.Members.{Contains-filtered}
 use Rattle.dl_base.proofs.PathLemmas.{acyclic_fewer}

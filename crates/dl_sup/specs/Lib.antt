@@ -1,2 +1,5 @@
 pub mod Links
+pub mod Slots
+pub mod Searching
+pub mod Turning
 pub mod Adding

@@ -1,6 +1,6 @@
 -- Pairs of numbers.
 use Rattle.std.specs.Prelude.{ℕ, Bool, ◌||◌, ◌&&◌, ◌==◌, List, Contains}
-use Rattle.dl_sup.specs.declared.order.Link.{Link}
+use Rattle.dl_sup.specs.declared.link.Link.{Link}
 use Rattle.dl_base.specs.Paths.{IsDistinct, HasCycle}
 
 abbrev pub link : ℕ → ℕ → Link

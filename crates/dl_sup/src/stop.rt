@@ -1,6 +1,9 @@
 //! Why an order is not changed.
 
+ghost use Rattle.std.specs.Prelude.{◌≡◌};
+
 use crate::track::Track;
+use dl_base::Memory;
 
 /// Why a pair was not added.
 #[derive(Drop)]
@@ -26,3 +29,23 @@ pub enum LoadStop {
 /// The pair is not in the list.
 #[derive(Clone, Copy, Debug, PartialEq, Eq)]
 pub struct NoPair;
+
+impl From<Memory> for SupStop {
+    ghost use Rattle.dl_sup.specs.declared.stop.SupStop.TheVariants as variants;
+
+    ghost from_gives = { λ _ stop. stop ≡ variants.Memory };
+
+    fn from(_: Memory) -> SupStop {
+        SupStop::Memory
+    }
+}
+
+impl From<Memory> for LoadStop {
+    ghost use Rattle.dl_sup.specs.declared.stop.LoadStop.TheVariants as variants;
+
+    ghost from_gives = { λ _ stop. stop ≡ variants.Memory };
+
+    fn from(_: Memory) -> LoadStop {
+        LoadStop::Memory
+    }
+}

@@ -1,8 +1,10 @@
 //! Paths of numbered items.
 
-ghost use Rattle.std.specs.Prelude.{◌≡◌, ◌==◌, length, slice_get};
+ghost use Rattle.std.specs.Prelude.{◌≡◌, ◌==◌, length, slice_get, IfOk, [], ◌∷◌};
 ghost use Rattle.std.specs.Option.{option_copied};
 
+use dl_base::Memory;
+use std::alloc::Global;
 use std::marker::Model;
 
 /// A path of items, each above the next.
@@ -20,6 +22,15 @@ impl Model for Track {
 }
 
 impl Track {
+    /// One item alone.
+    pub(crate) fn single(alloc: Global, item: usize) -> Result<Track, Memory>
+        ensures { IfOk result (λ track. track ≡ item ∷ []) }
+    {
+        let mut items = Vec::new(alloc);
+        items.push(item)?;
+        Ok(Track { items })
+    }
+
     pub fn len(&self) -> usize
         ensures { result ≡ length self.now }
     {

@@ -1,17 +1,10 @@
-use Rattle.std.proofs.Common.{List, sym, ap, subst, ◌∙◌, rules}
-use Rattle.std.specs.Prelude.{filter, not}
-use Rattle.std.proofs.lemmas.Fn.{filter_same}
-use Rattle.dl_sup.specs.declared.order.Link.{Link}
+use Rattle.std.proofs.Common.{List, sym, subst}
+use Rattle.std.specs.Prelude.{not}
+use Rattle.dl_sup.specs.declared.link.Link.{Link}
 use Rattle.dl_sup.specs.Links.{IsOrder, names_item}
 use Rattle.dl_sup.proofs.Links.{IsOrder-filter}
 use Rattle.dl_sup.proofs.order.Order.drop_item.Goals as goal
 
 pub invariant_of-self : goal.invariant_of-self
 invariant_of-self c =
-    subst (λ (ps : List Link). IsOrder ps) (sym (filter_same _ (λ p. not (names_item c.args.item p)) _ (λ x b f' k. search rules) _ _ c.retain.ensures.filtered))
-    (IsOrder-filter (λ p. not (names_item c.args.item p)) c.self.inside.pairs.items c.self.invariant)
-
-pub returns : goal.returns
-returns c =
-    filter_same _ (λ p. not (names_item c.args.item p)) _ (λ x b f' k. search rules) _ _ c.retain.ensures.filtered
-    ∙ ap (λ (ps : List Link). filter (λ p. not (names_item c.args.item p)) ps) c.self.view_is
+    subst (λ (ps : List Link). IsOrder ps) (sym c.drop_item.ensures) (IsOrder-filter (λ p. not (names_item c.args.item p)) c.self.inside.table c.self.invariant)
