@@ -1,8 +1,9 @@
 -- Lists without repeats.
-use Rattle.std.proofs.Common.{◌≡◌, ◌≢◌, ◌≤◌, List, [], ◌∷◌, ◌++◌, length, map, inl, inr, sym, subst, suc, arith}
+use Rattle.std.proofs.Common.{◌≡◌, ◌≢◌, ℕ, ◌+◌, ◌<◌, ◌≤◌, List, [], ◌∷◌, ◌++◌, length, map, take, drop, get_or, ap, ◌∙◌, inl, inr, sym, subst, suc, arith}
 use Rattle.std.specs.Prelude.{All, Contains, remove}
 use Rattle.std.proofs.lemmas.List.Quantifiers.{all_pairs_push}
 use Rattle.std.proofs.lemmas.List.Sorted.{IsPermutation-remove, Contains-permutation, length_permutation}
+use Rattle.std.proofs.lemmas.List.{take-append-drop, map-append, drop_more}
 use Rattle.std.proofs.lemmas.List.Kept.{AllPairs-cons}
 use Rattle.std.proofs.lemmas.List.Elements.{All-head, All-tail, All-map, All-contains_itself, Contains-append_cases, Contains-append_left, Contains-append_right, Contains-get_or}
 use Rattle.dl_base.specs.Paths.{IsDistinct}
@@ -90,3 +91,14 @@ distinct_join (x ∷ xs) ys h k apart =
 pub distinct_turned : {A : Type 0} (xs ys : List A) → IsDistinct (xs ++ ys) → IsDistinct (ys ++ xs)
 distinct_turned xs ys h =
     distinct_join ys xs (distinct_right xs ys h) (distinct_left xs ys h) (λ x m n. distinct_apart xs ys x h n m)
+
+-- where the images are distinct, none stands among those of earlier members
+pub distinct_front : {A B : Type 0} (f : A → B) (xs : List A) (i : ℕ) (d : A) → IsDistinct (map f xs) → i < length xs
+    → ¬ Contains (map f (take i xs)) (f (get_or xs i d))
+distinct_front {A} {B} f xs i d h within m =
+    let split : map f xs ≡ map f (take i xs) ++ map f (drop i xs) =
+    ap (map f) (sym (take-append-drop i xs)) ∙ map-append f (take i xs) (drop i xs) in
+    let here : Contains (map f (drop i xs)) (f (get_or xs i d)) =
+    subst (λ (l : List A). Contains (map f l) (f (get_or xs i d))) (sym (drop_more xs i d within))
+    (Contains-get_or (f (get_or xs i d) ∷ map f (drop (i + 1) xs)) 0 (f (get_or xs i d)) (omega arith)) in
+    distinct_apart (map f (take i xs)) (map f (drop i xs)) (f (get_or xs i d)) (subst (λ (l : List B). IsDistinct l) split h) m here

@@ -8,6 +8,7 @@ pub mod Deciding
 pub mod Finite
 pub mod Closure
 pub mod WellFormed
+pub mod Additions
 pub mod Decided
 pub mod Examples
 pub mod Inclusions

@@ -1,9 +1,11 @@
 -- Pairs added one after another, by their numbers.
-use Rattle.std.proofs.Common.{◌≡◌, ◌≢◌, ℕ, zero, suc, ◌+◌, ◌-◌, ◌<◌, ◌≤◌, List, [], ◌∷◌, ◌++◌, Option, None, Some, length, map, take, get_or, refl, sym, ap, subst, ◌∙◌, append_assoc, arith, length-append}
+use Rattle.std.proofs.Common.{◌≡◌, ◌≢◌, ℕ, zero, suc, ◌+◌, ◌-◌, ◌<◌, ◌≤◌, List, [], ◌∷◌, ◌++◌, Option, None, Some, length, map, take, get_or, filter, not, is_some, true, false, inl, inr, refl, sym, ap, subst, ◌∙◌, append_assoc, arith, length-append}
 use Rattle.std.specs.Prelude.{All, Contains, slice_get}
-use Rattle.std.specs.Option.{option_map_or, option_map}
-use Rattle.std.proofs.lemmas.List.{append-nil, take_all, take-map, length-map, length-take-le, take_at, take-append-le, take_more}
-use Rattle.std.proofs.lemmas.Option.{slice_get-map, slice_get_within, get_or_from_slice_get, slice_get_past}
+use Rattle.std.specs.Option.{option_map_or, option_map, IfSome}
+use Rattle.std.proofs.lemmas.List.{append-nil, take_all, take-map, length-map, length-take-le, take_at, take-append-le, take-take, take_more}
+use Rattle.std.proofs.Math.Seq.{take-append-add}
+use Rattle.std.proofs.lemmas.Bool.{cases_lt}
+use Rattle.std.proofs.lemmas.Option.{slice_get-map, slice_get_within, get_or_from_slice_get, slice_get-get_or}
 use Rattle.std.proofs.lemmas.List.Elements.{All-nil, All-head, All-tail, All-take, Contains-get_or, Contains-append_left, Contains-append_right}
 use Rattle.dl_base.specs.Paths.{IsDistinct, IsPath, HasCycle}
 use Rattle.dl_base.proofs.Distinct.{distinct_nil, distinct_push, distinct_apart}
@@ -17,9 +19,9 @@ use Rattle.dl_theory.specs.declared.superiority.PairCause.{PairCause}
 use Rattle.dl_theory.specs.declared.superiority.PairCause.TheVariants.{There, Cycle, Full}
 use Rattle.dl_theory.specs.declared.superiority.PairRefused.{PairRefused}
 use Rattle.dl_theory.specs.Lists.{IsAbove}
-use Rattle.dl_theory.specs.Pairs.{Closes, named, IsWithin, IsNumbered, IsNumberOf}
-use Rattle.dl_theory.specs.Superiority.{IsFree, AreFree, IsCause, AddsUpTo, AddsAll, IsLinkCause, OrdersUpTo, OrdersAll}
-use Rattle.dl_theory.proofs.Numbers.{numbered_push, numbered_taken, not_closing, old_link, path_named}
+use Rattle.dl_theory.specs.Pairs.{pair_eq, pair_eq-Decides, Closes, named, IsWithin, IsNumbered, IsNumberOf}
+use Rattle.dl_theory.specs.Superiority.{moved_back, IsFree, AreFree, IsCause, AddsUpTo, AddsAll, IsLinkCause, OrdersUpTo, OrdersAll}
+use Rattle.dl_theory.proofs.Numbers.{numbered_push, numbered_taken, not_closing, old_link, path_named, without_pushed}
 
 -- pairs whose numbers may be added one after another may be added so
 free_all : (items : List (List ℕ)) (links news : List Link) (pairs : List Pair) → IsNumbered items links pairs → All (IsWithin items) news
@@ -113,6 +115,22 @@ module _ (items : List (List ℕ)) (order links : List Link) (pairs : List Pair)
       (subst (λ (ls : List (List ℕ)). OrdersAll ls order links refused) is_items
       (subst (λ (ls : List Link). OrdersAll same_items order ls refused) is_links o))
 
+slice_get-append_left : (xs ys : List Pair) (i : ℕ) → i < length xs → slice_get (xs ++ ys) i ≡ slice_get xs i
+slice_get-append_left [] ys i h = absurd (omega (arith, h))
+slice_get-append_left (x ∷ xs) ys zero h = refl
+slice_get-append_left (x ∷ xs) ys (suc n) h = slice_get-append_left xs ys n (omega (arith, h))
+
+slice_get-append_add : (xs ys : List Pair) (i : ℕ) → slice_get (xs ++ ys) (length xs + i) ≡ slice_get ys i
+slice_get-append_add [] ys i = ap (slice_get ys) (omega arith)
+slice_get-append_add (x ∷ xs) ys i =
+    ap (slice_get (x ∷ xs ++ ys)) (let e : length (x ∷ xs) + i ≡ suc (length xs + i) = omega arith in e) ∙ slice_get-append_add xs ys i
+
+pub slice_get-take : (xs : List Pair) (n i : ℕ) → i < n → slice_get (take n xs) i ≡ slice_get xs i
+slice_get-take xs zero i h = absurd (omega (arith, h))
+slice_get-take [] (suc n) i h = refl
+slice_get-take (x ∷ xs) (suc n) zero h = refl
+slice_get-take (x ∷ xs) (suc n) (suc i) h = slice_get-take xs n i (omega (arith, h))
+
 -- pairs that are distinct and without cycles may be added one after another
 pub free_front : (front rest : List Pair) → IsDistinct (front ++ rest) → (¬ HasCycle (IsAbove (front ++ rest))) → AreFree front rest
 free_front front [] distinct acyclic = tt
@@ -160,3 +178,118 @@ none_refused xs new at cause a few u =
     let size : length (take at xs) ≡ at = length-take-le at xs (omega (arith, before)) in
     no_cause (take at xs) u.refused cause (free_at [] xs at u.refused a u.stands) (omega (arith, size, before, few))
     (subst (λ (l : List Pair). IsCause l u.refused cause) u.added u.cause)
+
+pub free_left : (base xs ys : List Pair) → AreFree base (xs ++ ys) → AreFree base xs
+free_left base [] ys a = tt
+free_left base (x ∷ xs) ys a = (a.0, free_left (base ++ x ∷ []) xs ys a.1)
+
+-- pairs added behind others, by a load of all of them
+module _ (old pairs new : List Pair) (free : AreFree [] old) (few : length old ≤ 1000000) where
+  behind : (r : PairRefused) → AddsUpTo [] new (old ++ pairs) r.at r.cause → length old ≤ r.at
+  behind r u =
+      elim (cases_lt r.at (length old)) [
+        | inr after ↦ after
+        | inl before ↦
+            let front : take r.at (old ++ pairs) ≡ take r.at old = take-append-le r.at old pairs (omega (arith, before)) in
+            absurd (none_refused old new r.at r.cause free few (record {
+              refused = u.refused;
+              stands = sym (slice_get-append_left old pairs r.at before) ∙ u.stands;
+              front = subst (λ (l : List Pair). AreFree [] l) front u.front;
+              added = u.added ∙ front;
+              cause = u.cause;
+            }))
+      ]
+
+  pub all_behind : (refused : Option PairRefused) → AddsAll [] new (old ++ pairs) refused → IfSome refused (λ r. length old ≤ r.at)
+  all_behind None a = tt
+  all_behind (Some r) a = behind r a
+
+  pub added_behind : (refused : Option PairRefused) → AddsAll [] new (old ++ pairs) refused
+      → AddsAll old new pairs (option_map (moved_back (length old)) refused)
+  added_behind None a = (free_cut [] old pairs a.0, a.1)
+  added_behind (Some r) u =
+      let n : ℕ = r.at - length old in
+      let place : r.at ≡ length old + n = omega (arith, behind r u) in
+      let front : take r.at (old ++ pairs) ≡ old ++ take n pairs =
+      ap (λ k. take k (old ++ pairs)) place ∙ take-append-add old pairs n in
+      record {
+        refused = u.refused;
+        stands = sym (slice_get-append_add old pairs n) ∙ ap (slice_get (old ++ pairs)) (sym place) ∙ u.stands;
+        front = free_cut [] old (take n pairs) (subst (λ (l : List Pair). AreFree [] l) front u.front);
+        added = u.added ∙ front;
+        cause = u.cause;
+      }
+
+-- pairs of which the last was one too many
+module _ (old pairs new : List Pair) (room : ℕ) (within : room < length pairs) where
+  pub refused_within : (r : PairRefused) → AddsUpTo old new (take (room + 1) pairs) r.at r.cause → AddsUpTo old new pairs r.at r.cause
+  refused_within r u =
+      let before : r.at < length (take (room + 1) pairs) = slice_get_within (take (room + 1) pairs) r.at u.refused u.stands in
+      let size : length (take (room + 1) pairs) ≡ room + 1 = length-take-le (room + 1) pairs (omega (arith, within)) in
+      let front : take r.at (take (room + 1) pairs) ≡ take r.at pairs = take-take r.at (room + 1) pairs (omega (arith, before, size)) in
+      record {
+        refused = u.refused;
+        stands = sym (slice_get-take pairs (room + 1) r.at (omega (arith, before, size))) ∙ u.stands;
+        front = subst (λ (l : List Pair). AreFree old l) front u.front;
+        added = u.added ∙ ap (λ l. old ++ l) front;
+        cause = u.cause;
+      }
+
+  pub length_within : (r : PairRefused) → AddsUpTo old new (take (room + 1) pairs) r.at r.cause → length new ≤ length old + room
+  length_within r u =
+      let before : r.at < length (take (room + 1) pairs) = slice_get_within (take (room + 1) pairs) r.at u.refused u.stands in
+      let size : length (take (room + 1) pairs) ≡ room + 1 = length-take-le (room + 1) pairs (omega (arith, within)) in
+      let front : length (take r.at (take (room + 1) pairs)) ≡ r.at = length-take-le r.at (take (room + 1) pairs) (omega (arith, before)) in
+      omega (arith, ap length u.added, length-append old (take r.at (take (room + 1) pairs)), front, before, size)
+
+  pub full_behind : (p : Pair) → p ≡ get_or pairs room p → (AreFree old (take (room + 1) pairs) × (new ≡ old ++ take (room + 1) pairs))
+      → (left : List Pair) → left ≡ filter (λ q. not (pair_eq q p)) new → 1000000 ≤ length old + room
+      → AddsUpTo old left pairs room Full × (left ≡ old ++ take room pairs)
+  full_behind p is a left without full =
+      let more : take (room + 1) pairs ≡ take room pairs ++ p ∷ [] = take_more pairs room p within ∙ ap (λ q. take room pairs ++ q ∷ []) (sym is) in
+      let front : AreFree old (take room pairs ++ p ∷ []) = subst (λ (l : List Pair). AreFree old l) more a.0 in
+      let last = free_cut old (take room pairs) (p ∷ []) front in
+      let all : new ≡ (old ++ take room pairs) ++ p ∷ [] =
+      a.1 ∙ ap (λ l. old ++ l) more ∙ sym (append_assoc old (take room pairs) (p ∷ [])) in
+      let back : left ≡ old ++ take room pairs =
+      without ∙ ap (filter (λ q. not (pair_eq q p))) all ∙ without_pushed pair_eq pair_eq-Decides (old ++ take room pairs) p last.0.0 in
+      let size : length (old ++ take room pairs) ≡ length old + room =
+      length-append old (take room pairs) ∙ ap (λ n. length old + n) (length-take-le room pairs (omega (arith, within))) in (
+        record {
+          refused = p;
+          stands = slice_get-get_or pairs room p within ∙ ap Some (sym is);
+          front = free_left old (take room pairs) (p ∷ []) front;
+          added = back;
+          cause = subst (λ (l : List Pair). IsCause l p Full) (sym back) (last.0, omega (arith, size, full));
+        },
+        back,
+      )
+
+-- as full_behind, where the last one was refused before
+pub within_added : (old pairs new : List Pair) (room : ℕ) → room < length pairs → (refused : Option PairRefused) → is_some refused ≡ true
+    → AddsAll old new (take (room + 1) pairs) refused → AddsAll old new pairs refused × (length new ≤ length old + room)
+within_added old pairs new room within None some a = cc
+within_added old pairs new room within (Some r) some a =
+    (refused_within old pairs new room within r a, length_within old pairs new room within r a)
+
+pub none_added : (old new pairs : List Pair) (refused : Option PairRefused) → is_some refused ≡ false → AddsAll old new pairs refused
+    → AreFree old pairs × (new ≡ old ++ pairs)
+none_added old new pairs None none a = a
+none_added old new pairs (Some r) none a = cc
+
+pub added_length : (old new pairs : List Pair) (refused : Option PairRefused) → AddsAll old new pairs refused
+    → length new ≤ length old + length pairs
+added_length old new pairs None a = omega (arith, ap length a.1, length-append old pairs)
+added_length old new pairs (Some r) u =
+    let before = slice_get_within pairs r.at u.refused u.stands in
+    omega (arith, ap length u.added, length-append old (take r.at pairs), length-take-le r.at pairs (omega (arith, before)), before)
+
+pub behind_as : (old pairs new all : List Pair) (n : ℕ) (refused : Option PairRefused) → n ≡ length old → all ≡ old ++ pairs → IsDistinct old
+    → (¬ HasCycle (IsAbove old)) → length old ≤ 1000000 → AddsAll [] new all refused
+    → IfSome refused (λ r. n ≤ r.at) × AddsAll old new pairs (option_map (moved_back n) refused)
+behind_as old pairs new all n refused e joined distinct acyclic few a =
+    let free = free_front [] old distinct acyclic in
+    let adds : AddsAll [] new (old ++ pairs) refused = subst (λ (l : List Pair). AddsAll [] new l refused) joined a in (
+      subst (λ (k : ℕ). IfSome refused (λ r. k ≤ r.at)) (sym e) (all_behind old pairs new free few refused adds),
+      subst (λ (k : ℕ). AddsAll old new pairs (option_map (moved_back k) refused)) (sym e) (added_behind old pairs new free few refused adds),
+    )

@@ -1,5 +1,5 @@
 -- What an edit changes, and when it is refused.
-use Rattle.std.specs.Prelude.{◌≡◌, ◌⊎◌, ℕ, ◌≤◌, ◌<◌, Bool, not, ◌&&◌, ◌||◌, List, [], ◌∷◌, ◌++◌, length, Contains, filter, map, take, slice_get, Some}
+use Rattle.std.specs.Prelude.{◌≡◌, ◌⊎◌, ℕ, ◌≤◌, ◌<◌, Bool, not, ◌&&◌, ◌||◌, List, [], ◌∷◌, ◌++◌, length, Contains, filter, map, take, slice_get, Option, None, Some, All}
 use Rattle.std.specs.Str.{bytes_eq}
 use Rattle.dl_lit.specs.Literal.{literal_eq}
 use Rattle.dl_theory.specs.declared.rule.Pair.{Pair}
@@ -59,6 +59,28 @@ IsRefused T (AddPair p) PairsFull =
     HasLabel T p.upper × HasLabel T p.lower × (¬ Contains T.pairs p) × (¬ ClosesCycle T p) × (1000000 ≤ length T.pairs)
 IsRefused T (DropPair p) NoPair = ¬ Contains T.pairs p
 IsRefused T _ _ = ⊥
+
+-- a label of a pair is missing
+abbrev pub IsMissing : TheoryLists → Pair → EditRefusal → Type 0
+IsMissing T p (NoLabel label) =
+    ((label ≡ p.upper) × (¬ HasLabel T p.upper)) ⊎ ((label ≡ p.lower) × HasLabel T p.upper × (¬ HasLabel T p.lower))
+IsMissing T p _ = ⊥
+
+-- both labels of a pair are those of rules
+abbrev pub HasBoth : TheoryLists → Pair → Type 0
+HasBoth T p = HasLabel T p.upper × HasLabel T p.lower
+
+-- the pairs before a place have their labels, and the one at it misses one
+pub record MissesAt (T : TheoryLists) (pairs : List Pair) (at : ℕ) (refusal : EditRefusal) : Type 0 where
+  pub pair : Pair
+  pub stands : slice_get pairs at ≡ Some pair
+  pub front : All (HasBoth T) (take at pairs)
+  pub missing : IsMissing T pair refusal
+
+-- the pairs before the first that misses a label
+abbrev pub IsFront : TheoryLists → List Pair → ℕ → Option EditRefusal → Type 0
+IsFront T pairs end None = All (HasBoth T) pairs × (end ≡ length pairs)
+IsFront T pairs end (Some refusal) = MissesAt T pairs end refusal
 
 -- what is allowed in place of an acceptance: a cause, or want of memory
 abbrev pub IsStopped : TheoryLists → Edit → EditStop → Type 0

@@ -7,6 +7,7 @@ pub mod Pairs
 pub mod Superiority
 pub mod KeptPairs
 pub mod Edits
+pub mod Refusals
 pub mod Cones
 pub mod Laws
 pub mod Kept

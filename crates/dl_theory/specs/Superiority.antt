@@ -1,5 +1,5 @@
 -- How the fields of a superiority hold its pairs, and why a pair is not added.
-use Rattle.std.specs.Prelude.{◌≡◌, ℕ, ◌≤◌, List, [], ◌∷◌, ◌++◌, Option, None, Some, Contains, length, map, take, slice_get}
+use Rattle.std.specs.Prelude.{◌≡◌, ℕ, ◌-◌, ◌≤◌, List, [], ◌∷◌, ◌++◌, Option, None, Some, Contains, length, map, take, slice_get}
 use Rattle.dl_base.specs.Paths.{IsPath}
 use Rattle.dl_sup.specs.declared.order.Link.{Link}
 use Rattle.dl_sup.specs.Links.{IsOver}
@@ -30,6 +30,10 @@ abbrev pub IsLinkStop : List (List ℕ) → List Link → Link → PairStop → 
 IsLinkStop items links l (Cycle path) = IsNamedTrack items links l path
 IsLinkStop items links l Full = ⊥
 IsLinkStop items links l Memory = Unit {0}
+
+-- a refusal by its place behind the first pairs
+abbrev pub moved_back : ℕ → PairRefused → PairRefused
+moved_back n r = record r { at = r.at - n }
 
 abbrev pub IsFree : List Pair → Pair → Type 0
 IsFree pairs p = (¬ Contains pairs p) × (¬ Closes pairs p)

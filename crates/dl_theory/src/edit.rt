@@ -93,3 +93,14 @@ impl From<Memory> for EditStop {
         EditStop::Memory
     }
 }
+
+impl From<Memory> for PairsStop {
+    ghost use Rattle.std.specs.Prelude.{◌≡◌};
+    ghost use Rattle.dl_theory.specs.declared.edit.PairsStop.{PairsStop};
+
+    ghost from_gives = { λ _ stop. stop ≡ PairsStop.Memory };
+
+    fn from(_: Memory) -> PairsStop {
+        PairsStop::Memory
+    }
+}

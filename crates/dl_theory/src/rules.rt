@@ -1,6 +1,6 @@
 //! Rules in order, each found by its label.
 
-ghost use Rattle.std.specs.Prelude.{◌≡◌, [], ◌∷◌, ◌++◌, ◌↔◌, ◌<◌, ℕ, IsTrue, OnOk, OnErr, IfErr, IfSome, IfNone, IsSome, Contains, filter, not, map, length, slice_index_or, slice_get};
+ghost use Rattle.std.specs.Prelude.{◌≡◌, [], ◌∷◌, ◌++◌, ◌↔◌, ◌<◌, ℕ, IsTrue, OnOk, OnErr, IfOk, IfErr, IfSome, IfNone, IsSome, Contains, filter, not, map, length, slice_index_or, slice_get};
 ghost use Rattle.std.specs.Option.{option_copied};
 ghost use Rattle.std.specs.Str.{bytes_eq};
 ghost use Rattle.dl_base.specs.Paths.{IsDistinct};
@@ -48,6 +48,18 @@ impl Rules {
     {
         let label = rule.label.copy()?;
         append_rule(&mut self.items, &mut self.labels, label, rule)
+    }
+
+    /// An equal list.
+    pub fn copy(&self) -> Result<Rules, Memory>
+        requires { IsDistinct (map (λ r. r.label) self.now) }
+        ensures { IfOk result (λ copy. copy ≡ self.now) }
+    {
+        let mut copy = Rules::make(*self.items.allocator());
+        for rule in &self.items {
+            copy.push(rule.copy()?)?;
+        }
+        Ok(copy)
     }
 
     /// Removes the rule with a label; tells whether there was one.

@@ -1,14 +1,15 @@
 //! Pairs of labels without cycles, over an order of numbers.
 
-ghost use Rattle.std.specs.Prelude.{◌≡◌, [], ◌∷◌, ◌++◌, ◌↔◌, ◌<◌, ◌≤◌, ◌||◌, ℕ, List, IsTrue, OnOk, OnErr, IfOk, IfErr, Contains, All, filter, not, map, length, slice_get};
+ghost use Rattle.std.specs.Prelude.{◌≡◌, [], ◌∷◌, ◌++◌, ◌↔◌, ◌<◌, ◌≤◌, ◌||◌, ◌-◌, ℕ, List, IsTrue, OnOk, OnErr, IfOk, IfErr, Contains, All, filter, not, map, length, slice_get};
 ghost use Rattle.std.specs.Option.{option_copied};
 ghost use Rattle.std.specs.Str.{bytes_eq};
-ghost use Rattle.dl_base.specs.Paths.{IsDistinct};
+ghost use Rattle.dl_base.specs.Paths.{IsDistinct, HasCycle};
+ghost use Rattle.dl_theory.specs.Lists.{IsAbove};
 ghost use Rattle.dl_sup.specs.Links.{names_item};
 ghost use Rattle.dl_sup.specs.Adding.{ClosesCycle};
 ghost use Rattle.dl_theory.specs.Pairs.{pair_eq, Closes, label_at, IsWithin, IsNumbered, IsNumberOf};
-ghost use Rattle.dl_theory.specs.Superiority.{IsPairStop, IsLinkStop, AddsAll, OrdersAll};
-ghost use Rattle.std.specs.Option.{option_map_or};
+ghost use Rattle.dl_theory.specs.Superiority.{IsPairStop, IsLinkStop, AddsAll, OrdersAll, moved_back};
+ghost use Rattle.std.specs.Option.{option_map_or, option_map, IfSome};
 
 use crate::lists::Path;
 use crate::rule::Pair;
@@ -128,6 +129,69 @@ impl Superiority {
             },
             refused,
         ))
+    }
+
+    /// Adds pairs at the end, or those before the first that is refused.
+    pub fn add_all(&mut self, pairs: &[Pair]) -> Result<Option<PairRefused>, Memory>
+        requires distinct { IsDistinct self.old }
+        requires acyclic { ¬ HasCycle (IsAbove self.old) }
+        requires few { length self.old ≤ 1000000 }
+        ensures added { IfOk result (AddsAll self.old self.new pairs.now) }
+        ensures kept { OnErr result (self.new ≡ self.old) }
+    {
+        let (extended, refused) = self.extended(pairs)?;
+        *self = extended;
+        Ok(refused)
+    }
+
+    /// This list with further pairs, or with those before the first that is refused.
+    fn extended(&self, pairs: &[Pair]) -> Result<(Superiority, Option<PairRefused>), Memory>
+        requires distinct { IsDistinct self.now }
+        requires acyclic { ¬ HasCycle (IsAbove self.now) }
+        requires few { length self.now ≤ 1000000 }
+        ensures { IfOk result (λ r. AddsAll self.now r.0 pairs.now r.1) }
+    {
+        let alloc = *self.pairs.allocator();
+        let old = self.pairs.len();
+        let all = joined(alloc, self.pairs.as_slice(), pairs)?;
+        let (extended, refused) = Superiority::load(alloc, all.as_slice())?;
+        Ok((extended, later(refused, old)))
+    }
+
+    /// The same, where a pair that finds the list full is refused.
+    pub fn add_within_limit(&mut self, pairs: &[Pair]) -> Result<Option<PairRefused>, Memory>
+        requires distinct { IsDistinct self.old }
+        requires acyclic { ¬ HasCycle (IsAbove self.old) }
+        requires few { length self.old ≤ 1000000 }
+        ensures added { IfOk result (AddsAll self.old self.new pairs.now) }
+        ensures few { length self.new ≤ 1000000 }
+        ensures kept { OnErr result (self.new ≡ self.old) }
+    {
+        let room = LIMIT - self.len();
+        if pairs.len() <= room {
+            return self.add_all(pairs);
+        }
+        let refused = self.add_all(&pairs[..room + 1])?;
+        if refused.is_some() {
+            return Ok(refused);
+        }
+        self.drop_pair(&pairs[room]);
+        let cause = PairCause::Full;
+        Ok(Some(PairRefused { at: room, cause }))
+    }
+
+    /// An equal list.
+    pub fn copy(&self) -> Result<Superiority, Memory>
+        requires distinct { IsDistinct self.now }
+        requires acyclic { ¬ HasCycle (IsAbove self.now) }
+        requires few { length self.now ≤ 1000000 }
+        ensures { IfOk result (λ copy. copy ≡ self.now) }
+    {
+        let (copy, refused) = Superiority::load(*self.pairs.allocator(), self.pairs.as_slice())?;
+        match refused {
+            None => Ok(copy),
+            Some(_) => unreachable!(),
+        }
     }
 
     /// Removes a pair; tells whether it was there.
@@ -256,6 +320,38 @@ fn kept_len(refused: &Option<PairRefused>, len: usize) -> usize
         None => len,
         Some(refused) => refused.at,
     }
+}
+
+/// A refusal by its place behind the first pairs.
+fn later(refused: Option<PairRefused>, by: usize) -> Option<PairRefused>
+    requires { IfSome refused (λ r. by ≤ r.at) }
+    ensures { result ≡ option_map (moved_back by) refused }
+{
+    match refused {
+        None => None,
+        Some(refused) => Some(PairRefused {
+            at: refused.at - by,
+            cause: refused.cause,
+        }),
+    }
+}
+
+fn joined(alloc: Global, old: &[Pair], new: &[Pair]) -> Result<Vec<Pair>, Memory>
+    ensures { IfOk result (λ all. all.items ≡ old.now ++ new.now) }
+{
+    let mut all = Vec::new(alloc);
+    copy_behind(&mut all, old)?;
+    copy_behind(&mut all, new)?;
+    Ok(all)
+}
+
+fn copy_behind(all: &mut Vec<Pair>, pairs: &[Pair]) -> Result<(), Memory>
+    ensures { OnOk result (all.new.items ≡ all.old.items ++ pairs.now) }
+{
+    for pair in pairs {
+        all.push(pair.copy()?)?;
+    }
+    Ok(())
 }
 
 fn collect_pairs(alloc: Global, pairs: &[Pair]) -> Result<IndexSet<Pair>, Memory>

@@ -1,14 +1,15 @@
 //! Theories under edits.
 
-ghost use Rattle.std.specs.Prelude.{◌≡◌, length, slice_get, OnOk, OnErr, IfOk, IfErr, ◌≤◌, ◌↔◌, IsTrue, Contains, ◌++◌, ◌∷◌, [], filter, not};
+ghost use Rattle.std.specs.Prelude.{◌≡◌, length, slice_get, OnOk, OnErr, IfOk, IfErr, MatchOption, ◌≤◌, ◌↔◌, IsTrue, Contains, ◌++◌, ◌∷◌, [], filter, not};
 ghost use Rattle.dl_base.specs.Paths.{IsDistinct};
 ghost use Rattle.dl_lit.specs.Literal.{literal_eq};
+ghost use Rattle.dl_theory.specs.Refusals.{refusal_of, outcome_of};
 ghost use Rattle.std.specs.Option.{option_copied};
 
 use crate::edit::{Edit, EditRefusal, EditStop, PairsStop};
 use crate::rule::{Pair, Rule};
 use crate::rules::Rules;
-use crate::superiority::{PairStop, Superiority};
+use crate::superiority::{PairCause, PairRefused, PairStop, Superiority};
 use dl_lit::{Literal, Memory, Name};
 use indexmap::IndexSet;
 use std::alloc::Global;
@@ -38,7 +39,7 @@ impl Model for Theory {
 
 impl Theory {
     ghost use Rattle.dl_theory.specs.Lists.{no_lists, IsWellFormed};
-    ghost use Rattle.dl_theory.specs.Edits.{after_edit, after_edits, additions, AreAccepted, IsAccepted, IsStopped, IsPairsStop, HasLabel};
+    ghost use Rattle.dl_theory.specs.Edits.{after_edit, after_edits, additions, AreAccepted, IsAccepted, IsStopped, IsPairsStop, HasLabel, HasBoth, IsMissing, IsFront};
 
     /// The empty theory.
     pub fn make(alloc: Global) -> Theory
@@ -157,8 +158,47 @@ impl Theory {
         ensures changed { OnOk result (self.new ≡ after_edits self.old (additions pairs.now)) }
         ensures stopped { IfErr result (IsPairsStop self.old self.new pairs.now) }
     {
-        let _ = pairs;
-        Err(PairsStop::Memory)
+        let (end, missing) = self.labelled_front(pairs)?;
+        let refused = self.pairs.add_within_limit(&pairs[..end])?;
+        outcome_of(refused, missing, end)
+    }
+
+    /// An equal theory.
+    pub fn copy(&self) -> Result<Theory, Memory>
+        ensures { IfOk result (λ copy. copy ≡ self.now) }
+    {
+        let facts = copy_facts(*self.facts.allocator(), self.facts.as_slice())?;
+        let rules = self.rules.copy()?;
+        let pairs = self.pairs.copy()?;
+        Ok(Theory {
+            facts,
+            rules,
+            pairs,
+        })
+    }
+
+    /// How many pairs come before the first that misses a label, and what it misses.
+    fn labelled_front(&self, pairs: &[Pair]) -> Result<(usize, Option<EditRefusal>), Memory>
+        ensures { IfOk result (λ r. IsFront self.now pairs.now r.0 r.1) }
+    {
+        for (at, pair) in pairs.iter().enumerate() {
+            if let Some(refusal) = self.missing_label(pair)? {
+                return Ok((at, Some(refusal)));
+            }
+        }
+        Ok((pairs.len(), None))
+    }
+
+    fn missing_label(&self, pair: &Pair) -> Result<Option<EditRefusal>, Memory>
+        ensures { IfOk result (λ r. MatchOption r (HasBoth self.now pair.now) (IsMissing self.now pair.now)) }
+    {
+        if !self.rules.has(&pair.upper) {
+            return Ok(Some(EditRefusal::NoLabel(pair.upper.copy()?)));
+        }
+        if !self.rules.has(&pair.lower) {
+            return Ok(Some(EditRefusal::NoLabel(pair.lower.copy()?)));
+        }
+        Ok(None)
     }
 
     fn add_rule(&mut self, rule: Rule) -> Result<(), EditStop>
@@ -268,6 +308,46 @@ impl Theory {
         self.pairs.drop_pair(pair);
         Ok(())
     }
+}
+
+fn refusal_of(cause: PairCause) -> EditRefusal
+    ensures { result ≡ refusal_of cause }
+{
+    match cause {
+        PairCause::There => EditRefusal::PairThere,
+        PairCause::Cycle(path) => EditRefusal::Cycle(path),
+        PairCause::Full => EditRefusal::PairsFull,
+    }
+}
+
+fn outcome_of(
+    refused: Option<PairRefused>,
+    missing: Option<EditRefusal>,
+    end: usize,
+) -> Result<(), PairsStop>
+    ensures { result ≡ outcome_of refused missing end }
+{
+    match refused {
+        Some(refused) => Err(PairsStop::Refused {
+            at: refused.at,
+            refusal: refusal_of(refused.cause),
+        }),
+        None => match missing {
+            Some(refusal) => Err(PairsStop::Refused { at: end, refusal }),
+            None => Ok(()),
+        },
+    }
+}
+
+fn copy_facts(alloc: Global, facts: &[Literal]) -> Result<IndexSet<Literal>, Memory>
+    requires { IsDistinct facts.now }
+    ensures { IfOk result (λ set. set.keys ≡ facts.now) }
+{
+    let mut set = IndexSet::new(alloc);
+    for fact in facts {
+        append(&mut set, fact.copy()?)?;
+    }
+    Ok(set)
 }
 
 fn holds(facts: &IndexSet<Literal>, fact: &Literal) -> bool

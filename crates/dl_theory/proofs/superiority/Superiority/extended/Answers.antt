@@ -1,0 +1,19 @@
+use Rattle.std.proofs.Common.{◌≡◌, ◌++◌, List, length, sym, ap, subst, ◌∙◌}
+use Rattle.dl_theory.specs.declared.rule.Pair.{Pair}
+use Rattle.dl_theory.specs.Superiority.{AddsAll}
+use Rattle.dl_theory.proofs.Loads.{behind_as}
+use Rattle.dl_theory.proofs.superiority.Superiority.extended.Goals as goal
+
+pub later-requires : goal.later-requires
+later-requires c =
+    (behind_as c.args.self.now c.args.pairs.now c.in_ok-extended.extended c.as_slice-2.result.now c.len-old.result c.in_ok-extended.refused
+    (c.len-old.ensures.len ∙ ap length c.self.view_is)
+    (c.as_slice-2.ensures.value ∙ c.in_ok-all.ensures ∙ ap (λ (l : List Pair). l ++ c.args.pairs.now) (c.as_slice.ensures.keys ∙ c.self.view_is))
+    c.requires.distinct c.requires.acyclic c.requires.few c.in_ok-extended.ensures).0
+
+pub returns : goal.returns
+returns c =
+    rw c.later.ensures (behind_as c.args.self.now c.args.pairs.now c.in_ok-extended.extended c.as_slice-2.result.now c.len-old.result c.in_ok-extended.refused
+    (c.len-old.ensures.len ∙ ap length c.self.view_is)
+    (c.as_slice-2.ensures.value ∙ c.in_ok-all.ensures ∙ ap (λ (l : List Pair). l ++ c.args.pairs.now) (c.as_slice.ensures.keys ∙ c.self.view_is))
+    c.requires.distinct c.requires.acyclic c.requires.few c.in_ok-extended.ensures).1
