@@ -18,3 +18,6 @@ pub use chronicle::{Chronicle, Numbered};
 pub use dl_base::Memory;
 pub use seat::Seat;
 pub use turnstile::Turnstile;
+
+#[cfg(test)]
+mod tests;
