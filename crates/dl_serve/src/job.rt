@@ -2,11 +2,13 @@
 
 use std::sync::Wait;
 
-/// Work that is done once, in some thread, and a relation between a job and its result. What a job needs is kept in its type.
+/// Work that is done once, in some thread. What a job needs, as that a seat belongs to an office, is kept
+/// in its type.
 pub trait Job: Send + Drop {
     /// What the job answers.
     type Done: Send + Drop;
 
+    /// The relation between a job and its result.
     ghost gives: { Self → Self.Done → Type 0 };
 
     /// Does the job. It may wait.

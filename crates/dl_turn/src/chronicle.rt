@@ -6,6 +6,7 @@ pub trait Numbered {
     /// What a history of such lines begins from: plain data, for proofs alone.
     type Start;
 
+    /// The number of the seat that made the line.
     ghost number: { Self → ℕ };
 
     /// Some start, of no meaning. It stands where a seat's view knows of none.
@@ -17,15 +18,18 @@ pub trait Chronicle: Drop {
     /// What the history is made of.
     type Line: Numbered;
 
+    /// What the history begins from.
     ghost start: { Self → Self.Line.Start };
 
+    /// The lines, in order.
     ghost history: { Self → List Self.Line };
 
+    /// How many seats have a number.
     ghost enrolled: { Self → ℕ };
 
     ghost use Rattle.dl_turn.specs.History.{AllBelow};
 
-    /// How many seats have a number. The numbers are those below it, and each line is of one of them.
+    /// How many seats have a number: each number below it is one's, and each line is of one of these numbers.
     fn enrolled(&self) -> u64
         ensures count { result ≡ enrolled self.now }
         ensures lines { AllBelow Self.Line.number (enrolled self.now) (history self.now) };

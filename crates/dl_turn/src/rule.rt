@@ -1,6 +1,8 @@
-//! The rule of the turnstile's place, and what each kind of step tells the seat that makes it. For proofs alone.
+//! The rule of the turnstile's place, and what each kind of step tells the seat that makes it. For proofs
+//! alone.
 //!
-//! There are six kinds: the opening push, a take that gets the board, a take that finds none, a give, a split and a join.
+//! There are six kinds: the opening push, a take that gets the board, a take that finds none, a give, a
+//! split and a join.
 ghost use Rattle.std.specs.Prelude.{◌≡◌, []};
 
 use crate::chronicle::{Chronicle, Numbered};
@@ -45,7 +47,9 @@ impl<B: Chronicle> Outcome<B, Known<B>> for Takes {
     ghost use Rattle.dl_turn.specs.History.{AllBelow};
     ghost use Rattle.dl_turn.specs.Rules.{Fits};
 
-    ghost then = { λ v b w. (w ≡ taken (B.history b) (B.enrolled b) v) × Fits B.Line.number (B.start b) (B.history b) (B.enrolled b) v × AllBelow B.Line.number (B.enrolled b) (B.history b) };
+    ghost then = { λ v b w. (w ≡ taken (B.history b) (B.enrolled b) v)
+        × Fits B.Line.number (B.start b) (B.history b) (B.enrolled b) v
+        × AllBelow B.Line.number (B.enrolled b) (B.history b) };
 }
 
 /// A seat gives the board back. While the board is out the place is empty, so it is not refused.

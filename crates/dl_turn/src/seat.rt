@@ -6,9 +6,10 @@ use crate::rule::Known;
 use crossbeam_queue::Pass;
 use std::marker::Model;
 
-/// A seat at a turnstile. Contracts see which turnstile it belongs to, the start of the history, the seat's number, the
-/// beginning of the history that it has seen, its own lines, the numbers and lines of seats that were joined into it, and
-/// what it took while the board is out with it. At run time it keeps its number, its pass and one count, and no list.
+/// A seat at a turnstile. Contracts see which turnstile it belongs to, the start of the history, the
+/// seat's number, the beginning of the history that it has seen, its own lines, the numbers and lines of
+/// the seats that were joined into it, and what it took while the board is out with it. At run time it
+/// keeps its number, its pass and one count, and no list.
 #[derive(Drop)]
 pub struct Seat<B: Chronicle> {
     pub(crate) pass: Pass<B, Known<B>>,
@@ -30,7 +31,8 @@ impl<B: Chronicle> Model for Seat<B> {
 }
 
 impl<B: Chronicle> Seat<B> {
-    /// The number of the lines that the seat makes. None exactly where it has no number: no line was given from it yet.
+    /// The number of the lines that the seat makes. None exactly where it has no number: no line was given
+    /// from it yet.
     pub fn number(&self) -> Option<u64>
         ensures { result ≡ self.now.number }
     {

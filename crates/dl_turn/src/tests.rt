@@ -12,11 +12,7 @@ use std::thread;
 use std::thread::Threads;
 
 // A first turn, which gives the seat a number.
-fn enrol<R: Wait>(
-    rt: &R,
-    turnstile: &Turnstile<Page>,
-    seat: &mut Seat<Page>,
-) -> Result<(), Memory>
+fn enrol<R: Wait>(rt: &R, turnstile: &Turnstile<Page>, seat: &mut Seat<Page>) -> Result<(), Memory>
     requires { (seat.old.place ≡ turnstile.now) × (seat.old.out ≡ None) × (seat.old.number ≡ None) }
     ensures within { (seat.new.place ≡ turnstile.now) × (seat.new.out ≡ None) }
     ensures number { OnOk result (IsSome seat.new.number) }
@@ -79,7 +75,8 @@ fn enrol_all<R: Wait>(
 ) -> Result<Vec<Seat<Page>>, Memory>
     requires { (first.old.place ≡ turnstile.now) × (first.old.out ≡ None) }
     ensures first { first.new ≡ first.old }
-    ensures seats { IfOk result (λ v. All (λ seat. (seat.place ≡ turnstile.now) × (seat.out ≡ None) × IsSome seat.number) v.items) }
+    ensures seats { IfOk result (λ v.
+        All (λ seat. (seat.place ≡ turnstile.now) × (seat.out ≡ None) × IsSome seat.number) v.items) }
 {
     let mut seats = Vec::new(alloc);
     for _ in 0..count {
@@ -128,7 +125,11 @@ fn threads_write_one_page(rt: HostRuntime) -> Result<(), Fail> {
         assert_eq!(rt; page.notes.len(), notes);
         for seat in 0..threads {
             let written = page.in_order(seat).ok_or("out of order")?;
-            assert_eq!(rt; written.checked_sub(1), Some(last), "seat {seat} of {threads}");
+            assert_eq!(rt;
+                written.checked_sub(1),
+                Some(last),
+                "seat {seat} of {threads}"
+            );
         }
     }
     Ok(())

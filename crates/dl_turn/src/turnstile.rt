@@ -19,8 +19,9 @@ use std::sync::Wait;
 
 type Place<B> = RuledArrayQueue<B, Known<B>, OneHistory>;
 
-/// One place for a board, which threads take and give back in turn. Contracts see which turnstile it is: a seat belongs to
-/// the turnstile whose `make` or `split` gave it, for good, and each call asks for a seat of its own turnstile.
+/// One place for a board, which threads take and give back in turn. Contracts see which turnstile it is:
+/// a seat belongs to the turnstile whose `make` or `split` gave it, for good, and each call asks for a
+/// seat of its own turnstile.
 #[derive(Drop)]
 pub struct Turnstile<B: Chronicle> {
     place: Place<B>,
@@ -77,7 +78,8 @@ fn put_back<B: Chronicle, R: Wait>(rt: &R, place: &Place<B>, pass: &mut Pass<B, 
     requires pass { IsPassOf place.now pass.old × ((view pass.old).stage ≡ Seated) }
     requires place { ruled_capacity place.now ≡ 1 }
     requires start { B.start board ≡ (view pass.old).start }
-    requires may { MayGive B.Line.number (view pass.old).out (view pass.old).number (B.history board) (B.enrolled board) }
+    requires may { let v = view pass.old in
+        MayGive B.Line.number v.out v.number (B.history board) (B.enrolled board) }
     ensures pass { IsSamePass pass.old pass.new }
     ensures view { view pass.new ≡ given (B.history board) (B.enrolled board) (view pass.old) }
 {
@@ -87,8 +89,8 @@ fn put_back<B: Chronicle, R: Wait>(rt: &R, place: &Place<B>, pass: &mut Pass<B, 
 }
 
 impl<B: Chronicle> Turnstile<B> {
-    /// A turnstile for a board with an empty history, and its first seat, which has no number. It may wait, to put the
-    /// board into its place. `Memory`, with the board as it was, is want of memory for the place.
+    /// A turnstile for a board with an empty history, and its first seat, which has no number. It may wait,
+    /// to put the board into its place. `Memory`, with the board as it was, is want of memory for the place.
     pub fn make<R: Wait>(
         rt: &R,
         alloc: Global,
@@ -111,8 +113,9 @@ impl<B: Chronicle> Turnstile<B> {
         Ok((Turnstile { place }, seat))
     }
 
-    /// Waits until the board is in its place, and takes it. Its history begins with all that the seat has seen, and has of
-    /// the seat's number, and of each number that it joined, just the lines that the seat knows. The seat is then out.
+    /// Waits until the board is in its place, and takes it. Its history begins with all that the seat has
+    /// seen, and has of the seat's number, and of each number that was joined into the seat, just the lines
+    /// that the seat knows. The seat is then out.
     pub fn take<R: Wait>(&self, rt: &R, seat: &mut Seat<B>) -> B
         requires place { seat.old.place ≡ self.now }
         requires within { seat.old.out ≡ None }
@@ -129,17 +132,26 @@ impl<B: Chronicle> Turnstile<B> {
         board
     }
 
-    /// Gives the board back: as it was taken; or with one more line, of the seat's number; or, from a seat with no number,
-    /// with one more line of the next number, which is then the seat's. The seat has seen the board's history, its own
-    /// lines have grown by the one line if there is one, and it is no longer out.
+    /// Gives the board back: as it was taken; or with one more line, of the seat's number; or, from a seat
+    /// with no number, with one more line of the next number, which is then the seat's. The seat has seen
+    /// the board's history, its own lines have grown by the one line if there is one, and it is no longer
+    /// out. It may wait.
     pub fn give<R: Wait>(&self, rt: &R, seat: &mut Seat<B>, board: B)
         requires place { seat.old.place ≡ self.now }
         requires start { B.start board ≡ seat.old.start }
         requires may { MayGive B.Line.number seat.old.out seat.old.number (B.history board) (B.enrolled board) }
-        ensures stays { seat.new ≡ record seat.old { number = seat.new.number; seen = B.history board; mine = seat.new.mine; out = None } }
-        ensures as_taken { seat.old.out ≡ Some (B.history board, B.enrolled board) → (seat.new.number ≡ seat.old.number) × (seat.new.mine ≡ seat.old.mine) }
-        ensures own_line { (before : List B.Line) (l : B.Line) → seat.old.out ≡ Some (before, B.enrolled board) → B.history board ≡ before ++ l ∷ [] → (seat.new.number ≡ seat.old.number) × (seat.new.mine ≡ seat.old.mine ++ l ∷ []) }
-        ensures first_line { (before : List B.Line) (l : B.Line) → seat.old.out ≡ Some (before, B.Line.number l) → B.history board ≡ before ++ l ∷ [] → B.enrolled board ≡ B.Line.number l + 1 → (seat.new.number ≡ Some (B.Line.number l)) × (seat.new.mine ≡ seat.old.mine ++ l ∷ []) }
+
+        // Place, start and olds stay, the seat has seen the board's history, and it is not out.
+        ensures stays { let n = seat.new.number in let m = seat.new.mine in
+            seat.new ≡ record seat.old { number = n; seen = B.history board; mine = m; out = None } }
+        ensures as_taken { seat.old.out ≡ Some (B.history board, B.enrolled board)
+            → (seat.new.number ≡ seat.old.number) × (seat.new.mine ≡ seat.old.mine) }
+        ensures own_line { (before : List B.Line) (l : B.Line) → seat.old.out ≡ Some (before, B.enrolled board)
+            → B.history board ≡ before ++ l ∷ []
+            → (seat.new.number ≡ seat.old.number) × (seat.new.mine ≡ seat.old.mine ++ l ∷ []) }
+        ensures first_line { (before : List B.Line) (l : B.Line) → seat.old.out ≡ Some (before, B.Line.number l)
+            → B.history board ≡ before ++ l ∷ [] → B.enrolled board ≡ B.Line.number l + 1
+            → (seat.new.number ≡ Some (B.Line.number l)) × (seat.new.mine ≡ seat.old.mine ++ l ∷ []) }
     {
         let enrolled = board.enrolled();
         put_back(rt, &self.place, &mut seat.pass, board);
@@ -148,8 +160,8 @@ impl<B: Chronicle> Turnstile<B> {
         }
     }
 
-    /// A new seat, which has seen as much as this one and has no number. `Memory` is want of memory, and this seat is as
-    /// before whatever the answer.
+    /// A new seat, which has seen as much as this one and has no number. `Memory` is want of memory, and this
+    /// seat is as before whatever the answer.
     pub fn split(&self, seat: &mut Seat<B>) -> Result<Seat<B>, Memory>
         requires place { seat.old.place ≡ self.now }
         requires within { seat.old.out ≡ None }
@@ -164,12 +176,14 @@ impl<B: Chronicle> Turnstile<B> {
         })
     }
 
-    /// Joins another seat into this one, which has then seen the longer of the two beginnings: the other one begins it.
-    /// The other seat's number with its lines, and the numbers that it joined, are now among those that this seat joined.
+    /// Joins another seat into this one, which has then seen the longer of the two beginnings: the other one
+    /// begins it. The other seat's number with its lines, and what was joined into it, are now among what
+    /// was joined into this one.
     pub fn join(&self, seat: &mut Seat<B>, other: Seat<B>)
         requires place { (seat.old.place ≡ self.now) × (other.place ≡ self.now) }
         requires within { (seat.old.out ≡ None) × (other.out ≡ None) }
-        ensures stays { seat.new ≡ record seat.old { seen = seat.new.seen; olds = seat.old.olds ++ numbers_of other } }
+        ensures stays { let seen = seat.new.seen in
+            seat.new ≡ record seat.old { seen = seen; olds = seat.old.olds ++ numbers_of other } }
         ensures one { (seat.new.seen ≡ seat.old.seen) ⊎ (seat.new.seen ≡ other.seen) }
         ensures both { StartsWith seat.new.seen seat.old.seen × StartsWith seat.new.seen other.seen }
     {
@@ -182,7 +196,8 @@ impl<B: Chronicle> Turnstile<B> {
         self.place.learn_as::<Compares>(&mut seat.pass);
     }
 
-    /// Waits until the board is in its place, and takes it for good, as `take` does. The seat comes back with it.
+    /// Waits until the board is in its place, and takes it for good, as `take` does. The seat comes back with
+    /// it, and is out.
     pub fn finish<R: Wait>(self, rt: &R, mut seat: Seat<B>) -> (B, Seat<B>)
         requires place { seat.place ≡ self }
         requires within { seat.out ≡ None }

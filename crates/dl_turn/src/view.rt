@@ -1,4 +1,5 @@
-//! What a seat knows, as the rule of the turnstile sees it. For proofs alone: no value of these types is made.
+//! What a seat knows, as the rule of the turnstile sees it. For proofs alone: no value of these types is
+//! made.
 use std::collections::LinkedList;
 
 /// How far a seat has come.
@@ -20,7 +21,8 @@ pub struct PassView<L, S> {
     pub number: Option<u64>,
     /// A beginning of the history.
     pub seen: LinkedList<L>,
-    /// After a join, the shorter of the two beginnings. A look at the place tells that both begin one history.
+    /// After a join, the shorter of the two beginnings. A look at the place tells that both begin one
+    /// history.
     pub also_seen: LinkedList<L>,
     /// The lines of the seat's number.
     pub mine: LinkedList<L>,

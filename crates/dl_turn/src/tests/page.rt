@@ -54,7 +54,8 @@ impl Page {
     // Writes the first note of the next number.
     pub fn write_first(&mut self, value: u64) -> Result<(), Memory>
         ensures title { self.new.title ≡ self.old.title }
-        ensures wrote { MatchResult result (λ _. (self.new.count ≡ self.old.count + 1) × (self.new.notes.items ≡ self.old.notes.items ++ record { seat = self.old.count; value = value } ∷ [])) (λ _. (self.new.count ≡ self.old.count) × (self.new.notes.items ≡ self.old.notes.items)) }
+        ensures wrote { MatchResult result (λ _. (self.new.count ≡ self.old.count + 1) × (self.new.notes.items ≡ self.old.notes.items ++ record { seat = self.old.count; value = value } ∷ []))
+            (λ _. (self.new.count ≡ self.old.count) × (self.new.notes.items ≡ self.old.notes.items)) }
     {
         let Some(count) = self.count.checked_add(1) else {
             return Err(Memory);
@@ -70,7 +71,8 @@ impl Page {
     pub fn write(&mut self, seat: u64, value: u64) -> Result<(), Memory>
         requires { seat < self.old.count }
         ensures stays { (self.new.title ≡ self.old.title) × (self.new.count ≡ self.old.count) }
-        ensures wrote { MatchResult result (λ _. self.new.notes.items ≡ self.old.notes.items ++ record { seat = seat; value = value } ∷ []) (λ _. self.new.notes.items ≡ self.old.notes.items) }
+        ensures wrote { MatchResult result (λ _. self.new.notes.items ≡ self.old.notes.items ++ record { seat = seat; value = value } ∷ [])
+            (λ _. self.new.notes.items ≡ self.old.notes.items) }
     {
         self.notes.reserve(1)?;
         self.notes.push_reserved(Note { seat, value });
