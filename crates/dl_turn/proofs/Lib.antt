@@ -1,0 +1,9 @@
+mod Compare
+mod Give
+mod Join
+mod Kept
+mod Lists
+mod Numbers
+mod Open
+mod Split
+mod Take
