@@ -3,13 +3,10 @@
 
 mod literal;
 mod name;
-<<<<<<< HEAD
+mod names;
 #[cfg(test)]
 mod tests;
 mod text;
-=======
-mod names;
->>>>>>> 21f1022 (Literals by number)
 
 pub use dl_base::Memory;
 pub use literal::{Family, Literal, Tag, Tagged};
