@@ -11,7 +11,7 @@ use Rattle.dl_base.specs.Paths.{IsDistinct, IsPath, HasCycle}
 use Rattle.dl_base.proofs.Distinct.{distinct_nil, distinct_push, distinct_apart}
 use Rattle.dl_base.proofs.Members.{Contains-mapped}
 use Rattle.dl_base.proofs.PathLemmas.{path_more}
-use Rattle.dl_sup.specs.declared.order.Link.{Link}
+use Rattle.dl_sup.specs.declared.link.Link.{Link}
 use Rattle.dl_sup.specs.Links.{IsOver}
 use Rattle.dl_sup.specs.Adding.{AreAddable}
 use Rattle.dl_theory.specs.declared.rule.Pair.{Pair}

@@ -14,7 +14,7 @@ use Rattle.dl_base.specs.Paths.{IsDistinct, IsPath}
 use Rattle.dl_base.proofs.Members.{all_more, Contains-mapped, mapped_from, map_agree}
 use Rattle.dl_base.proofs.Filters.{filter_all, filter_mapped, false_unless}
 use Rattle.dl_base.proofs.PathLemmas.{path_mapped, path_known}
-use Rattle.dl_sup.specs.declared.order.Link.{Link}
+use Rattle.dl_sup.specs.declared.link.Link.{Link}
 use Rattle.dl_sup.specs.declared.stop.NoPair.{NoPair}
 use Rattle.dl_sup.specs.Links.{IsOver, link, names_item, same_link}
 use Rattle.dl_sup.specs.Adding.{ClosesCycle}

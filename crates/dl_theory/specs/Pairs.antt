@@ -9,7 +9,7 @@ use Rattle.std.proofs.Common.{ap}
 use Rattle.std.proofs.lemmas.Slice.Eq.{bytes_eq-Decides}
 use Rattle.std.proofs.lemmas.Bool.Decides.{Decides-and, Decides-like}
 use Rattle.dl_base.specs.Paths.{IsDistinct, IsPath}
-use Rattle.dl_sup.specs.declared.order.Link.{Link}
+use Rattle.dl_sup.specs.declared.link.Link.{Link}
 use Rattle.dl_theory.specs.declared.rule.Pair.{Pair}
 use Rattle.dl_theory.specs.Lists.{IsAbove}
 

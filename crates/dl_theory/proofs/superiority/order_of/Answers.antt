@@ -2,7 +2,7 @@ use Rattle.std.proofs.Common.{ℕ, ◌<◌, ◌++◌, List, length, take, sym, a
 use Rattle.std.specs.Prelude.{All}
 use Rattle.std.proofs.lemmas.Option.{slice_get_within, get_or_from_slice_get}
 use Rattle.std.proofs.lemmas.List.Elements.{All-take}
-use Rattle.dl_sup.specs.declared.order.Link.{Link}
+use Rattle.dl_sup.specs.declared.link.Link.{Link}
 use Rattle.dl_theory.specs.Pairs.{IsWithin}
 use Rattle.dl_theory.proofs.Numbers.{track_within}
 use Rattle.dl_theory.proofs.superiority.order_of.Goals as goal
