@@ -1,7 +1,7 @@
 -- A new pair makes no cycle where no pairs lead from its lower item to its upper one.
-use Rattle.std.proofs.Common.{◌≡◌, ◌≢◌, ℕ, suc, ◌+◌, ◌<◌, List, [], ◌∷◌, ◌++◌, length, get_or, inl, inr, ◌⊎◌, refl, sym, ap, subst, ◌∙◌, arith, length-append, append_assoc}
+use Rattle.std.proofs.Common.{◌≡◌, ◌≢◌, ℕ, suc, ◌+◌, ◌<◌, ◌≤◌, List, [], ◌∷◌, ◌++◌, length, get_or, inl, inr, ◌⊎◌, refl, sym, ap, subst, ◌∙◌, arith, length-append, append_assoc}
 use Rattle.std.specs.Prelude.{Contains}
-use Rattle.std.proofs.lemmas.List.{get_or_append_left, get_or_at}
+use Rattle.std.proofs.lemmas.List.{append-nil, get_or_append_left, get_or_at}
 use Rattle.std.proofs.lemmas.List.Elements.{Contains-append_left, Contains-append_right, Contains-push_cases}
 use Rattle.dl_base.specs.Paths.{IsDistinct, Descends, last_of, IsPath, HasCycle}
 use Rattle.dl_base.proofs.PathLemmas.{path_stays, path_climbs, path_more, acyclic_fewer}
@@ -136,3 +136,23 @@ order_addable old (p ∷ more) h = (
   ),
   order_addable (old ++ p ∷ []) more (subst IsOrder (sym (append_assoc old (p ∷ []) more)) h),
 )
+
+-- numbers along which each pair rises leave no cycle
+module _ (pairs : List Link) (rank : ℕ → ℕ) (rises : (x y : ℕ) → IsOver pairs x y → rank x < rank y) where
+  not_lower : (first : ℕ) (rest : List ℕ) → Descends (IsOver pairs) first rest → rank first ≤ rank (last_of (IsOver pairs) first rest)
+  not_lower first [] d = omega arith
+  not_lower first (next ∷ rest) d = omega (arith, rises first next d.0, not_lower next rest d.1)
+
+  pub ranked_acyclic : ¬ HasCycle (IsOver pairs)
+  ranked_acyclic c =
+      omega (
+        arith,
+        not_lower c.first c.is_path.rest c.is_path.descends,
+        ap rank c.is_path.ends,
+        rises c.last c.first c.closes,
+      )
+
+pub AreAddable-push : (old links : List Link) (p : Link) → AreAddable old links → IsAddable (old ++ links) p → AreAddable old (links ++ p ∷ [])
+AreAddable-push old [] p h a = (subst (λ (ps : List Link). IsAddable ps p) (append-nil old) a, tt)
+AreAddable-push old (q ∷ more) p h a =
+    (h.0, AreAddable-push (old ++ q ∷ []) more p h.1 (subst (λ (ps : List Link). IsAddable ps p) (sym (append_assoc old (q ∷ []) more)) a))

@@ -5,6 +5,7 @@ ghost use Rattle.std.specs.Prelude.{◌≡◌, ℕ, ◌<◌, ◌≢◌, [], ◌�
 use crate::heads::Heads;
 use crate::link::Link;
 use crate::places::Places;
+use crate::ranking::{rank, rises};
 use crate::search::search;
 use crate::slot::{Slot, Way, older};
 use crate::track::Track;
@@ -40,7 +41,10 @@ impl Model for Table {
 
 impl Table {
     ghost use Rattle.dl_sup.specs.Links.{names_item, link, same_link};
+    ghost use Rattle.dl_sup.specs.Links.{IsOver};
     ghost use Rattle.dl_sup.specs.Searching.{IsApart, IsWalk};
+    ghost use Rattle.dl_base.specs.Paths.{IsDistinct, HasCycle};
+    ghost use Rattle.std.specs.Prelude.{true};
 
     pub(crate) fn make(alloc: Global) -> Table
         ensures { result ≡ [] }
@@ -134,6 +138,28 @@ impl Table {
             put_slot(&mut fresh, *slot)?;
         }
         Ok(fresh)
+    }
+
+    /// Adds new pairs at the end, up to the first that is there already, and says whether there was none.
+    pub(crate) fn put_all(&mut self, links: &[Link]) -> Result<bool, Memory>
+        requires { IsDistinct self.old }
+        ensures { IfOk result (λ whole. whole ≡ true → (self.new ≡ self.old ++ links.now) × IsDistinct self.new) }
+    {
+        for link in links {
+            if self.has(*link) {
+                return Ok(false);
+            }
+            self.put(*link)?;
+        }
+        Ok(true)
+    }
+
+    /// Whether ranks were found along which all pairs rise.
+    pub(crate) fn is_ranked(&self) -> Result<bool, Memory>
+        ensures { IfOk result (λ ranked. ranked ≡ true → ¬ HasCycle (IsOver self.now)) }
+    {
+        let ranks = rank(self.alloc(), self.slots.as_slice(), &self.downs)?;
+        Ok(rises(self.slots.as_slice(), &ranks))
     }
 
     /// Closes the gaps, where more than half of the places are empty.
