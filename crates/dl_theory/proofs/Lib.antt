@@ -14,3 +14,4 @@ pub mod Examples
 pub mod Inclusions
 pub mod Consistency
 pub mod Unmentioned
+pub mod Marks

@@ -10,5 +10,6 @@ pub mod Edits
 pub mod Refusals
 pub mod Cones
 pub mod Laws
+pub mod Marks
 pub mod Kept
 pub mod Tests
