@@ -9,7 +9,7 @@ use crate::file::ReadStop;
 use crate::statement::Statement;
 use dl_lit::{Memory, Name};
 use dl_theory::{Edit, EditRefusal, EditStop, Pair, PairsStop, Rule, Theory};
-use itoa::Buffer;
+use itoa::write_digits;
 use std::alloc::Global;
 
 /// The first edit that was refused, and the number of its line.
@@ -167,8 +167,7 @@ fn label_of(alloc: Global, label: Option<Name>, line: u64) -> Result<Name, Memor
 fn line_label(alloc: Global, line: u64) -> Result<Name, Memory>
     ensures { IfOk result (λ name. name ≡ label_of line None) }
 {
-    let mut buffer = Buffer::new();
-    let mut text = Vec::from_slice(alloc, b"_")?;
-    text.extend_from_slice(buffer.format(line).as_bytes())?;
-    Name::from_spelled(alloc, text.as_slice())
+    let mut text = [b'_'; 21];
+    let start = write_digits(line, &mut text, 21);
+    Name::from_spelled(alloc, &text[start - 1..])
 }
