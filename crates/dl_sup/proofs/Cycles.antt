@@ -66,6 +66,7 @@ module _ {A : Type 0} (Old New : A → A → Type 0) where
       where
         ends : last_of Old c.first c.is_path.rest ≡ c.last
         ends = sym (same_last c.first c.is_path.rest) ∙ c.is_path.ends
+
         old_cycle : Descends Old c.first c.is_path.rest → Old c.last c.first → ⊥
         old_cycle d closes =
             none (record {
@@ -75,6 +76,7 @@ module _ {A : Type 0} (Old New : A → A → Type 0) where
               is_path = record { rest = c.is_path.rest; begins = c.is_path.begins; ends = ends; descends = d; distinct = c.is_path.distinct };
               closes = closes;
             })
+
         from_seen : Seen c.first → ⊥
         from_seen s =
             let walk = seen_walk c.first c.is_path.rest s c.is_path.descends in

@@ -12,7 +12,6 @@ use Rattle.dl_sup.specs.declared.slot.Way.{Way}
 use Rattle.dl_sup.specs.declared.slot.Way.TheVariants.{Down, Up}
 use Rattle.dl_sup.specs.Links.{same_link, names_item}
 use Rattle.dl_sup.specs.Slots.{near, far, older, place_of, head_of, no_slot, slot_at, IsAlive, live, IsChained, IsKept, KeepsSlots, IsFoundAt}
-
 use Rattle.dl_sup.proofs.LinkLemmas.{alike, or_left, or_right, filter_all, names_neither, not_true, same_link_apart}
 
 -- a pair that is there stands before the end
@@ -283,8 +282,8 @@ none_names slots item above below =
     filter_all (λ p. not (names_item item p)) (live slots)
     (All-weaker (Contains (live slots)) (λ p. not (names_item item p) ≡ true)
     (λ p m.
-        let at = live_from slots p m in
-        names_neither item p (subst (λ (q : Link). q.upper ≢ item) at.2 (above at.0 at.1)) (subst (λ (q : Link). q.lower ≢ item) at.2 (below at.0 at.1)))
+    let at = live_from slots p m in
+    names_neither item p (subst (λ (q : Link). q.upper ≢ item) at.2 (above at.0 at.1)) (subst (λ (q : Link). q.lower ≢ item) at.2 (below at.0 at.1)))
     (live slots) (All-contains_itself (live slots)))
 
 -- where the pair is not there, all stay

@@ -11,8 +11,7 @@ returns-in-None-place c =
     let old = c.args.front.now in
     let new = c.step.new.front in
     let pushed : new.visits ≡ old.visits ++ (c.in-Some.item, old.next) ∷ [] =
-    subst (λ (o : Option ℕ). MatchOption o (new.visits ≡ old.visits) (λ item. new.visits ≡ old.visits ++ (item, old.next) ∷ [])) c.in-Some.is c.in_ok-step.ensures.met in
-    (
+    subst (λ (o : Option ℕ). MatchOption o (new.visits ≡ old.visits) (λ item. new.visits ≡ old.visits ++ (item, old.next) ∷ [])) c.in-Some.is c.in_ok-step.ensures.met in (
       record {
         front = c.in_ok-step.ensures.front;
         first =
