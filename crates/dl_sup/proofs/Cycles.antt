@@ -1,5 +1,5 @@
 -- A new pair makes no cycle where no pairs lead from its lower item to its upper one.
-use Rattle.std.proofs.Common.{◌≡◌, ◌≢◌, ℕ, suc, ◌+◌, ◌<◌, ◌≤◌, List, [], ◌∷◌, ◌++◌, length, get_or, inl, inr, ◌⊎◌, refl, sym, ap, subst, ◌∙◌, arith, length-append, append_assoc}
+use Rattle.std.proofs.Common.{◌≡◌, ℕ, ◌<◌, ◌≤◌, List, [], ◌∷◌, ◌++◌, length, inl, inr, ◌⊎◌, refl, sym, ap, subst, ◌∙◌, arith, length-append, append_assoc}
 use Rattle.std.specs.Prelude.{Contains}
 use Rattle.std.proofs.lemmas.List.{append-nil, get_or_append_left, get_or_at}
 use Rattle.std.proofs.lemmas.List.Elements.{Contains-append_left, Contains-append_right, Contains-push_cases}
@@ -10,7 +10,7 @@ use Rattle.dl_base.proofs.Distinct.{distinct_push}
 use Rattle.dl_sup.specs.declared.link.Link.{Link}
 use Rattle.dl_sup.specs.Links.{IsOver, IsOrder, link}
 use Rattle.dl_sup.specs.Adding.{ClosesCycle, IsAddable, AreAddable}
-use Rattle.dl_sup.specs.Searching.{IsWalk, ClosedBelow, ClosedAbove, IsApart}
+use Rattle.dl_sup.specs.Searching.{IsWalk, IsApart}
 
 -- without cycles, a walk repeats nothing
 module _ (pairs : List Link) (acyclic : ¬ HasCycle (IsOver pairs)) where

@@ -1,5 +1,5 @@
 -- What a step keeps of one end of a search.
-use Rattle.std.proofs.Common.{◌≡◌, ◌≢◌, ℕ, zero, suc, ◌+◌, ◌-◌, ◌*◌, ◌<◌, ◌≤◌, Bool, true, false, List, [], ◌∷◌, ◌++◌, Option, None, Some, length, get_or, map, inl, inr, ◌⊎◌, refl, sym, ap, subst, ◌∙◌, arith, length-append}
+use Rattle.std.proofs.Common.{◌≡◌, ℕ, suc, ◌+◌, ◌-◌, ◌*◌, ◌<◌, ◌≤◌, List, [], ◌∷◌, ◌++◌, Option, None, Some, length, get_or, map, inl, inr, refl, sym, ap, subst, ◌∙◌, arith, length-append}
 use Rattle.std.specs.Prelude.{All, Contains}
 use Rattle.std.proofs.Math.ListN.{length-map}
 use Rattle.std.proofs.lemmas.Bool.{cases_eq, cases_lt}
@@ -7,15 +7,13 @@ use Rattle.std.proofs.lemmas.List.{get_or_append_left, get_or_push, map_push, ge
 use Rattle.std.proofs.lemmas.List.Elements.{All-nil, All-cons, All-push, Contains-append_left, Contains-append_right, Contains-push, Contains-get_or}
 use Rattle.dl_base.specs.Paths.{IsDistinct}
 use Rattle.dl_base.proofs.Distinct.{no_longer, distinct_push}
-use Rattle.dl_sup.specs.declared.link.Link.{Link}
 use Rattle.dl_sup.specs.declared.slot.Slot.{Slot}
 use Rattle.dl_sup.specs.declared.front.Front.{Front}
 use Rattle.dl_sup.specs.declared.slot.Way.{Way}
 use Rattle.dl_sup.specs.declared.slot.Way.TheVariants.{Down, Up}
-use Rattle.dl_sup.specs.Links.{IsOver, link}
 use Rattle.dl_sup.specs.Slots.{near, far, older, head_of, slot_at, no_slot, IsAlive, live, IsChained}
 use Rattle.dl_sup.specs.Searching.{items_of, item_at, from_at, Leads, IsFront, work, Begins, Turns, Follows, Meets}
-use Rattle.dl_sup.proofs.Slots.{alive_within, live_has}
+use Rattle.dl_sup.proofs.Slots.{live_has}
 
 -- a pair leads along its way
 pub alive_leads : (way : Way) (slots : List Slot) (t : ℕ) → IsAlive slots t → Leads way (live slots) (near way (slot_at slots t)) (far way (slot_at slots t))

@@ -1,4 +1,4 @@
-use Rattle.std.proofs.Common.{ℕ, ◌<◌, List, ap, subst, ◌∙◌}
+use Rattle.std.proofs.Common.{◌<◌, List, ap, subst, ◌∙◌}
 use Rattle.dl_base.specs.Paths.{HasCycle}
 use Rattle.dl_sup.specs.declared.link.Link.{Link}
 use Rattle.dl_sup.specs.Links.{IsOver, link}

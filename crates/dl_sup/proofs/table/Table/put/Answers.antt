@@ -1,11 +1,9 @@
-use Rattle.std.proofs.Common.{◌≡◌, ◌≢◌, ℕ, suc, ◌+◌, ◌<◌, Bool, true, false, cond, eqb, List, [], ◌∷◌, ◌++◌, Option, Some, length, get_or, set, inl, refl, sym, ap, subst, ◌∙◌, arith, true≢false, length-append, rules}
+use Rattle.std.proofs.Common.{◌≡◌, ℕ, ◌+◌, ◌<◌, Bool, true, false, cond, eqb, List, [], ◌∷◌, ◌++◌, Some, length, get_or, set, inl, refl, sym, ap, subst, ◌∙◌, arith, true≢false, length-append, rules}
 use Rattle.std.specs.Prelude.{Contains}
 use Rattle.std.proofs.lemmas.List.{get_or_read, get_or_push, set_at}
 use Rattle.dl_sup.specs.declared.link.Link.{Link}
 use Rattle.dl_sup.specs.declared.slot.Slot.{Slot}
-use Rattle.dl_sup.specs.declared.slot.Way.TheVariants.{Down, Up}
-use Rattle.dl_sup.specs.Links.{same_link}
-use Rattle.dl_sup.specs.Slots.{place_of, head_of, slot_at, no_slot, IsAlive, live, IsKept}
+use Rattle.dl_sup.specs.Slots.{place_of, head_of, slot_at, no_slot, live, IsKept}
 use Rattle.dl_sup.proofs.LinkLemmas.{same_link_same, same_link_apart}
 use Rattle.dl_sup.proofs.Slots.{IsKept-pushed, raised, raised_here, live_alive, live_has}
 use Rattle.dl_sup.proofs.table.Table.put.Goals as goal
