@@ -1,5 +1,5 @@
 -- A new pair makes no cycle where no pairs lead from its lower item to its upper one.
-use Rattle.std.proofs.Common.{◌≡◌, ◌≢◌, ℕ, suc, ◌+◌, ◌<◌, ◌≤◌, List, [], ◌∷◌, ◌++◌, length, get_or, inl, inr, ◌⊎◌, refl, sym, ap, subst, ◌∙◌, arith, length-append, append_assoc}
+use Rattle.std.proofs.Common.{◌≡◌, ℕ, ◌<◌, ◌≤◌, List, [], ◌∷◌, ◌++◌, length, inl, inr, ◌⊎◌, refl, sym, ap, subst, ◌∙◌, arith, length-append, append_assoc}
 use Rattle.std.specs.Prelude.{Contains}
 use Rattle.std.proofs.lemmas.List.{append-nil, get_or_append_left, get_or_at}
 use Rattle.std.proofs.lemmas.List.Elements.{Contains-append_left, Contains-append_right, Contains-push_cases}
@@ -10,7 +10,7 @@ use Rattle.dl_base.proofs.Distinct.{distinct_push}
 use Rattle.dl_sup.specs.declared.link.Link.{Link}
 use Rattle.dl_sup.specs.Links.{IsOver, IsOrder, link}
 use Rattle.dl_sup.specs.Adding.{ClosesCycle, IsAddable, AreAddable}
-use Rattle.dl_sup.specs.Searching.{IsWalk, ClosedBelow, ClosedAbove, IsApart}
+use Rattle.dl_sup.specs.Searching.{IsWalk, IsApart}
 
 -- without cycles, a walk repeats nothing
 module _ (pairs : List Link) (acyclic : ¬ HasCycle (IsOver pairs)) where
@@ -66,6 +66,7 @@ module _ {A : Type 0} (Old New : A → A → Type 0) where
       where
         ends : last_of Old c.first c.is_path.rest ≡ c.last
         ends = sym (same_last c.first c.is_path.rest) ∙ c.is_path.ends
+
         old_cycle : Descends Old c.first c.is_path.rest → Old c.last c.first → ⊥
         old_cycle d closes =
             none (record {
@@ -75,6 +76,7 @@ module _ {A : Type 0} (Old New : A → A → Type 0) where
               is_path = record { rest = c.is_path.rest; begins = c.is_path.begins; ends = ends; descends = d; distinct = c.is_path.distinct };
               closes = closes;
             })
+
         from_seen : Seen c.first → ⊥
         from_seen s =
             let walk = seen_walk c.first c.is_path.rest s c.is_path.descends in

@@ -1,5 +1,5 @@
 -- What a step keeps of one end of a search.
-use Rattle.std.proofs.Common.{◌≡◌, ◌≢◌, ℕ, zero, suc, ◌+◌, ◌-◌, ◌*◌, ◌<◌, ◌≤◌, Bool, true, false, List, [], ◌∷◌, ◌++◌, Option, None, Some, length, get_or, map, inl, inr, ◌⊎◌, refl, sym, ap, subst, ◌∙◌, arith, length-append}
+use Rattle.std.proofs.Common.{◌≡◌, ℕ, suc, ◌+◌, ◌-◌, ◌*◌, ◌<◌, ◌≤◌, List, [], ◌∷◌, ◌++◌, Option, None, Some, length, get_or, map, inl, inr, refl, sym, ap, subst, ◌∙◌, arith, length-append}
 use Rattle.std.specs.Prelude.{All, Contains}
 use Rattle.std.proofs.Math.ListN.{length-map}
 use Rattle.std.proofs.lemmas.Bool.{cases_eq, cases_lt}
@@ -7,15 +7,13 @@ use Rattle.std.proofs.lemmas.List.{get_or_append_left, get_or_push, map_push, ge
 use Rattle.std.proofs.lemmas.List.Elements.{All-nil, All-cons, All-push, Contains-append_left, Contains-append_right, Contains-push, Contains-get_or}
 use Rattle.dl_base.specs.Paths.{IsDistinct}
 use Rattle.dl_base.proofs.Distinct.{no_longer, distinct_push}
-use Rattle.dl_sup.specs.declared.link.Link.{Link}
 use Rattle.dl_sup.specs.declared.slot.Slot.{Slot}
 use Rattle.dl_sup.specs.declared.front.Front.{Front}
 use Rattle.dl_sup.specs.declared.slot.Way.{Way}
 use Rattle.dl_sup.specs.declared.slot.Way.TheVariants.{Down, Up}
-use Rattle.dl_sup.specs.Links.{IsOver, link}
 use Rattle.dl_sup.specs.Slots.{near, far, older, head_of, slot_at, no_slot, IsAlive, live, IsChained}
 use Rattle.dl_sup.specs.Searching.{items_of, item_at, from_at, Leads, IsFront, work, Begins, Turns, Follows, Meets}
-use Rattle.dl_sup.proofs.Slots.{alive_within, live_has}
+use Rattle.dl_sup.proofs.Slots.{live_has}
 
 -- a pair leads along its way
 pub alive_leads : (way : Way) (slots : List Slot) (t : ℕ) → IsAlive slots t → Leads way (live slots) (near way (slot_at slots t)) (far way (slot_at slots t))
@@ -150,31 +148,31 @@ module _ (way : Way) (slots : List Slot) (heads : List (ℕ × ℕ)) (chained : 
           is_end =
               subst (Contains (map (far way) slots)) (get_or-map (far way) slots at no_slot item at_within ∙ sym is)
               (Contains-get_or (map (far way) slots) at item (subst (λ n. at < n) (sym (length-map slots (far way))) at_within))
+
           traced_front : (k : ℕ) → 0 < k → k < length f.visits
               → (from_at (f.visits ++ (item, f.next) ∷ []) k < k)
               × Leads way (live slots) (item_at (f.visits ++ (item, f.next) ∷ []) (from_at (f.visits ++ (item, f.next) ∷ []) k)) (item_at (f.visits ++ (item, f.next) ∷ []) k)
           traced_front k above lt =
               let was = h.traced k above lt in
               let same = λ (j : ℕ) (lt : j < length f.visits). get_or_append_left f.visits ((item, f.next) ∷ []) (0, 0) j lt in
-              let from : from_at (f.visits ++ (item, f.next) ∷ []) k ≡ from_at f.visits k = ap (λ (v : ℕ × ℕ). v.1) (same k lt) in
-              (
+              let from : from_at (f.visits ++ (item, f.next) ∷ []) k ≡ from_at f.visits k = ap (λ (v : ℕ × ℕ). v.1) (same k lt) in (
                 subst (λ n. n < k) (sym from) was.0,
                 subst (λ n. Leads way (live slots) (item_at (f.visits ++ (item, f.next) ∷ []) n) (item_at (f.visits ++ (item, f.next) ∷ []) k)) (sym from)
-                (subst (λ x. Leads way (live slots) x (item_at (f.visits ++ (item, f.next) ∷ []) k)) (sym (ap (λ (v : ℕ × ℕ). v.0) (same (from_at f.visits k) (omega (arith, was.0, lt)))))
-                (subst (λ x. Leads way (live slots) (item_at f.visits (from_at f.visits k)) x) (sym (ap (λ (v : ℕ × ℕ). v.0) (same k lt))) was.1)),
+                    (subst (λ x. Leads way (live slots) x (item_at (f.visits ++ (item, f.next) ∷ []) k)) (sym (ap (λ (v : ℕ × ℕ). v.0) (same (from_at f.visits k) (omega (arith, was.0, lt)))))
+                    (subst (λ x. Leads way (live slots) (item_at f.visits (from_at f.visits k)) x) (sym (ap (λ (v : ℕ × ℕ). v.0) (same k lt))) was.1)),
               )
+
           traced_last : (k : ℕ) → length f.visits ≡ k
               → (from_at (f.visits ++ (item, f.next) ∷ []) k < k)
               × Leads way (live slots) (item_at (f.visits ++ (item, f.next) ∷ []) (from_at (f.visits ++ (item, f.next) ∷ []) k)) (item_at (f.visits ++ (item, f.next) ∷ []) k)
           traced_last k end =
               let last : get_or (f.visits ++ (item, f.next) ∷ []) k (0, 0) ≡ (item, f.next) = get_or_push f.visits (item, f.next) (0, 0) k end in
-              let from : from_at (f.visits ++ (item, f.next) ∷ []) k ≡ f.next = ap (λ (v : ℕ × ℕ). v.1) last in
-              (
+              let from : from_at (f.visits ++ (item, f.next) ∷ []) k ≡ f.next = ap (λ (v : ℕ × ℕ). v.1) last in (
                 subst (λ n. n < k) (sym from) (omega (arith, left, end)),
                 subst (λ n. Leads way (live slots) (item_at (f.visits ++ (item, f.next) ∷ []) n) (item_at (f.visits ++ (item, f.next) ∷ []) k)) (sym from)
-                (subst (λ x. Leads way (live slots) x (item_at (f.visits ++ (item, f.next) ∷ []) k)) (sym (ap (λ (v : ℕ × ℕ). v.0) (get_or_append_left f.visits ((item, f.next) ∷ []) (0, 0) f.next left)))
-                (subst (λ x. Leads way (live slots) (item_at f.visits f.next) x) (sym is ∙ sym (ap (λ (v : ℕ × ℕ). v.0) last))
-                (subst (λ x. Leads way (live slots) x (far way (slot_at slots at))) (h.chain at left here) (alive_leads way slots at a)))),
+                    (subst (λ x. Leads way (live slots) x (item_at (f.visits ++ (item, f.next) ∷ []) k)) (sym (ap (λ (v : ℕ × ℕ). v.0) (get_or_append_left f.visits ((item, f.next) ∷ []) (0, 0) f.next left)))
+                    (subst (λ x. Leads way (live slots) (item_at f.visits f.next) x) (sym is ∙ sym (ap (λ (v : ℕ × ℕ). v.0) last))
+                    (subst (λ x. Leads way (live slots) x (far way (slot_at slots at))) (h.chain at left here) (alive_leads way slots at a)))),
               )
 
       follows : (m : Option ℕ) (g : Front) → g.next ≡ f.next → g.cursor ≡ older way (slot_at slots at) → Meets way (slot_at slots at) f g m → IsFront way slots g
@@ -189,7 +187,7 @@ module _ (way : Way) (slots : List Slot) (heads : List (ℕ × ℕ)) (chained : 
       front_followed m g t = (
         follows m g t.next t.cursor t.meets,
         subst (λ n. (length slots + 1 - n) * (length slots + 1) + g.cursor < work slots f) (sym t.next)
-        (less ((length slots + 1 - f.next) * (length slots + 1)) g.cursor f.cursor (omega (arith, t.cursor, here, chained.falls at at_within))),
+            (less ((length slots + 1 - f.next) * (length slots + 1)) g.cursor f.cursor (omega (arith, t.cursor, here, chained.falls at at_within))),
       )
         where
           less : (a x y : ℕ) → x < y → a + x < a + y

@@ -1,11 +1,11 @@
 -- When two pairs are one.
-use Rattle.std.proofs.Common.{◌≡◌, ◌≢◌, ℕ, Bool, true, false, List, [], ◌∷◌, refl, sym, ap, ◌∙◌, eqb, cond, inl, inr, true≢false}
+use Rattle.std.proofs.Common.{◌≡◌, ◌≢◌, ℕ, Bool, true, false, List, [], ◌∷◌, refl, sym, ap, ◌∙◌, cond, true≢false}
 use Rattle.std.specs.Prelude.{All, filter, not, ◌||◌, ◌&&◌, ◌==◌}
 use Rattle.std.specs.Bool.{Decides}
 use Rattle.std.proofs.lemmas.Bool.Decides.{Decides-eqb}
 use Rattle.std.proofs.lemmas.List.Elements.{All-head, All-tail}
 use Rattle.dl_sup.specs.declared.link.Link.{Link}
-use Rattle.dl_sup.specs.Links.{same_link, names_item, link}
+use Rattle.dl_sup.specs.Links.{same_link, names_item}
 
 pub false_unless : {P : Type 0} (b : Bool) → Decides b P → (¬ P) → b ≡ false
 false_unless true d fails = absurd (fails (d.0 refl))

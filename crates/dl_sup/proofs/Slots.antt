@@ -1,9 +1,9 @@
 -- Pairs at places that never move: one goes, one comes.
-use Rattle.std.proofs.Common.{◌≡◌, ◌≢◌, ℕ, zero, suc, ◌+◌, ◌<◌, ◌≤◌, Bool, true, false, cond, List, [], ◌∷◌, ◌++◌, Option, None, Some, is_some, take, length, get_or, set, map, inl, inr, ◌⊎◌, refl, sym, ap, subst, ◌∙◌, arith, true≢false, get_or-set_same, get_or-set_other, length-append, length-set}
+use Rattle.std.proofs.Common.{◌≡◌, ◌≢◌, ℕ, zero, suc, ◌+◌, ◌<◌, ◌≤◌, Bool, true, false, cond, List, [], ◌∷◌, ◌++◌, Option, None, Some, is_some, take, length, set, map, inl, inr, ◌⊎◌, refl, sym, ap, subst, ◌∙◌, arith, true≢false, get_or-set_same, get_or-set_other, length-append, length-set}
 use Rattle.std.specs.Prelude.{filter, Contains, not, ◌==◌, ◌↔◌, IsTrue, MatchOption}
 use Rattle.std.specs.Bool.{Decides}
 use Rattle.std.proofs.lemmas.Bool.Decides.{Decides-eqb}
-use Rattle.std.proofs.lemmas.List.{take_more, length-take-le, get_or-take, get_or_past, append-nil, get_or_push, get_or_append_left, map-append, set_at, get_or_default}
+use Rattle.std.proofs.lemmas.List.{take_more, length-take-le, get_or-take, get_or_past, append-nil, get_or_push, get_or_append_left, map-append}
 use Rattle.std.proofs.lemmas.List.Elements.{All-weaker, All-contains_itself, filter-append, Contains-append_right}
 use Rattle.std.proofs.lemmas.Bool.{cases_eq, cases_lt}
 use Rattle.dl_sup.specs.declared.link.Link.{Link}
@@ -11,8 +11,7 @@ use Rattle.dl_sup.specs.declared.slot.Slot.{Slot}
 use Rattle.dl_sup.specs.declared.slot.Way.{Way}
 use Rattle.dl_sup.specs.declared.slot.Way.TheVariants.{Down, Up}
 use Rattle.dl_sup.specs.Links.{same_link, names_item}
-use Rattle.dl_sup.specs.Slots.{near, far, older, place_of, head_of, no_slot, slot_at, IsAlive, live, IsChained, IsKept, KeepsSlots, IsFoundAt}
-
+use Rattle.dl_sup.specs.Slots.{near, older, place_of, head_of, no_slot, slot_at, IsAlive, live, IsChained, IsKept, KeepsSlots, IsFoundAt}
 use Rattle.dl_sup.proofs.LinkLemmas.{alike, or_left, or_right, filter_all, names_neither, not_true, same_link_apart}
 
 -- a pair that is there stands before the end
@@ -283,8 +282,8 @@ none_names slots item above below =
     filter_all (λ p. not (names_item item p)) (live slots)
     (All-weaker (Contains (live slots)) (λ p. not (names_item item p) ≡ true)
     (λ p m.
-        let at = live_from slots p m in
-        names_neither item p (subst (λ (q : Link). q.upper ≢ item) at.2 (above at.0 at.1)) (subst (λ (q : Link). q.lower ≢ item) at.2 (below at.0 at.1)))
+    let at = live_from slots p m in
+    names_neither item p (subst (λ (q : Link). q.upper ≢ item) at.2 (above at.0 at.1)) (subst (λ (q : Link). q.lower ≢ item) at.2 (below at.0 at.1)))
     (live slots) (All-contains_itself (live slots)))
 
 -- where the pair is not there, all stay

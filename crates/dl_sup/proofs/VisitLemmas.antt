@@ -1,13 +1,13 @@
 -- Places of items in a list of visits.
-use Rattle.std.proofs.Common.{◌≡◌, ℕ, ◌<◌, ◌+◌, Bool, true, false, eqb, List, [], ◌∷◌, ◌++◌, Option, None, Some, is_some, length, get_or, map, position, refl, sym, ap, subst, ◌∙◌, true≢false}
+use Rattle.std.proofs.Common.{◌≡◌, ℕ, ◌<◌, false, eqb, List, Option, None, Some, is_some, length, get_or, position, refl, sym, subst, ◌∙◌, true≢false}
 use Rattle.std.specs.Prelude.{Contains, MatchOption, IsSome}
-use Rattle.std.specs.Map.{lookup, keys_of}
+use Rattle.std.specs.Map.{lookup}
 use Rattle.std.specs.Cmp.{nat_eq_equiv}
 use Rattle.std.proofs.lemmas.List.{get_or-map}
 use Rattle.std.proofs.lemmas.List.Quantifiers.{position-Some}
 use Rattle.std.proofs.lemmas.Map.Views.{exact_unsigned_eq, IsSome-lookup_from_Contains}
 use Rattle.std.proofs.Math.ListN.{length-map}
-use Rattle.dl_sup.specs.Searching.{items_of, item_at, from_at}
+use Rattle.dl_sup.specs.Searching.{items_of, item_at}
 
 pub item_of : (visits : List (ℕ × ℕ)) (at : ℕ) → at < length visits → get_or (items_of visits) at 0 ≡ item_at visits at
 item_of visits at lt = get_or-map (λ (v : ℕ × ℕ). v.0) visits at (0, 0) 0 lt

@@ -1,5 +1,5 @@
 -- What a search that ended found: a walk, or items that no pair leads out of.
-use Rattle.std.proofs.Common.{◌≡◌, ℕ, zero, suc, ◌+◌, ◌<◌, ◌≤◌, List, [], ◌∷◌, ◌++◌, length, get_or, map, reverse, inl, inr, refl, sym, ap, subst, ◌∙◌, append_assoc, arith}
+use Rattle.std.proofs.Common.{◌≡◌, ℕ, zero, suc, ◌<◌, ◌≤◌, List, [], ◌∷◌, ◌++◌, length, reverse, refl, sym, ap, subst, ◌∙◌, append_assoc, arith}
 use Rattle.std.specs.Prelude.{Contains}
 use Rattle.std.proofs.Math.ListN.{length-map}
 use Rattle.std.proofs.lemmas.List.{reverse-append, get_or_default}
@@ -41,12 +41,11 @@ module _ (pairs : List Link) (visits : List (ℕ × ℕ)) where
         let step = traced (suc k) (omega arith) within in
         let from = from_at visits (suc k) in
         let front = trail_by n visits from in
-        let rest = down_walk n from (item_at visits (suc k) ∷ more) (omega (arith, step.0, fits)) (omega (arith, step.0, within)) (step.1, d) in
-        (
+        let rest = down_walk n from (item_at visits (suc k) ∷ more) (omega (arith, step.0, fits)) (omega (arith, step.0, within)) (step.1, d) in (
           rest.0,
           ap (λ (xs : List ℕ). xs ++ item_at visits (suc k) ∷ more) (reverse-append (item_at visits from ∷ []) front)
-          ∙ append_assoc (reverse front) (item_at visits from ∷ []) (item_at visits (suc k) ∷ more)
-          ∙ rest.1,
+              ∙ append_assoc (reverse front) (item_at visits from ∷ []) (item_at visits (suc k) ∷ more)
+              ∙ rest.1,
           rest.2,
           rest.3,
         )

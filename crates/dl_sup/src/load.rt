@@ -39,11 +39,7 @@ fn try_load(base: &Table, best: &mut Table, links: &[Link]) -> Result<bool, Memo
 }
 
 /// Loads as many of the first pairs as give an order, and says how many: by halves, where not all of them do.
-pub(crate) fn load_front(
-    base: &Table,
-    best: &mut Table,
-    links: &[Link],
-) -> Result<usize, Memory>
+pub(crate) fn load_front(base: &Table, best: &mut Table, links: &[Link]) -> Result<usize, Memory>
     requires order { IsOrder base.now }
     requires same { best.old ≡ base.now }
     ensures { IfOk result (HasFront base.now links.now best.new) }

@@ -1,4 +1,4 @@
-use Rattle.std.proofs.Common.{◌≡◌, ℕ, suc, ◌+◌, ◌-◌, ◌<◌, Option, Result, Ok, Err, OnOk, length, sym, subst, arith}
+use Rattle.std.proofs.Common.{◌≡◌, ℕ, suc, ◌-◌, ◌<◌, Option, Result, Ok, Err, OnOk, length, subst, arith}
 use Rattle.std.specs.Prelude.{IfOk}
 use Rattle.std.proofs.lemmas.List.{get_or_default}
 use Rattle.dl_base.specs.declared.memory.Memory.{Memory}
@@ -27,6 +27,6 @@ returns-else-front-eq0-clause-front c =
     let within : at < length c.args.slots.now = omega (arith, here, c.requires.front.short) in
     ok_from c.follow.result
     (λ m f.
-        (front_followed c.args.way c.args.slots.now c.args.heads.now c.requires.chained c.args.front.now c.requires.front c.requires.left at here m c.follow.new.front
-        (subst (λ (s : Slot). Follows c.args.way s c.args.front.now c.follow.new.front m) (get_or_default c.args.slots.now at _ no_slot within) f)).0)
+    (front_followed c.args.way c.args.slots.now c.args.heads.now c.requires.chained c.args.front.now c.requires.front c.requires.left at here m c.follow.new.front
+    (subst (λ (s : Slot). Follows c.args.way s c.args.front.now c.follow.new.front m) (get_or_default c.args.slots.now at _ no_slot within) f)).0)
     c.follow.ensures

@@ -1,8 +1,7 @@
-use Rattle.std.proofs.Common.{◌≡◌, ℕ, List, [], ◌∷◌, ◌++◌, Option, inl, inr, ◌⊎◌, sym, ap, subst, ◌∙◌}
+use Rattle.std.proofs.Common.{◌≡◌, ℕ, List, [], ◌∷◌, ◌++◌, Option, inl, inr, sym, ap, subst, ◌∙◌}
 use Rattle.std.specs.Prelude.{Contains, MatchOption}
 use Rattle.std.proofs.lemmas.List.{get_or_append_left, map_push}
 use Rattle.std.proofs.lemmas.List.Elements.{Contains-push_cases}
-use Rattle.dl_sup.specs.declared.front.Front.{Front}
 use Rattle.dl_sup.specs.Searching.{items_of, item_at}
 use Rattle.dl_sup.proofs.search.advance.Goals as goal
 
@@ -11,8 +10,7 @@ returns-in-None-place c =
     let old = c.args.front.now in
     let new = c.step.new.front in
     let pushed : new.visits ≡ old.visits ++ (c.in-Some.item, old.next) ∷ [] =
-    subst (λ (o : Option ℕ). MatchOption o (new.visits ≡ old.visits) (λ item. new.visits ≡ old.visits ++ (item, old.next) ∷ [])) c.in-Some.is c.in_ok-step.ensures.met in
-    (
+    subst (λ (o : Option ℕ). MatchOption o (new.visits ≡ old.visits) (λ item. new.visits ≡ old.visits ++ (item, old.next) ∷ [])) c.in-Some.is c.in_ok-step.ensures.met in (
       record {
         front = c.in_ok-step.ensures.front;
         first =

@@ -1,10 +1,10 @@
-use Rattle.std.proofs.Common.{◌≡◌, ◌≢◌, ℕ, ◌<◌, List, [], ◌∷◌, ◌++◌, inl, inr, ◌⊎◌, length, reverse, sym, ap, subst, ◌∙◌, arith}
+use Rattle.std.proofs.Common.{◌≡◌, ◌≢◌, ℕ, List, inl, inr, sym, ap, subst, ◌∙◌}
 use Rattle.std.specs.Prelude.{Contains}
 use Rattle.dl_base.proofs.Members.{only}
 use Rattle.dl_sup.specs.declared.slot.Way.TheVariants.{Down, Up}
 use Rattle.dl_sup.specs.declared.front.Front.{Front}
 use Rattle.dl_sup.specs.Slots.{live}
-use Rattle.dl_sup.specs.Searching.{items_of, item_at, trail, IsFront, IsWalk, Begins}
+use Rattle.dl_sup.specs.Searching.{items_of, item_at, IsWalk, Begins}
 use Rattle.dl_sup.specs.Turning.{IsTurn}
 use Rattle.dl_sup.proofs.Fronts.{front_begun}
 use Rattle.dl_sup.proofs.Walks.{met_walk, closed_below, closed_above, has_first}

@@ -1,4 +1,4 @@
-use Rattle.std.proofs.Common.{◌≡◌, ℕ, zero, suc, ◌<◌, ◌≤◌, List, [], ◌∷◌, ◌++◌, append_assoc, length, sym, ap, subst, ◌∙◌, arith}
+use Rattle.std.proofs.Common.{◌≡◌, ℕ, zero, suc, ◌<◌, ◌≤◌, List, [], ◌∷◌, ◌++◌, append_assoc, ap, ◌∙◌, arith}
 use Rattle.dl_sup.specs.Searching.{item_at, from_at, trail, trail_by}
 use Rattle.dl_sup.proofs.search.trace.Goals as goal
 
@@ -22,8 +22,8 @@ loop-at-preserved c =
         next.0,
         omega (arith, from, next.1),
         ap (λ (xs : List ℕ). xs ++ trail_by next.0 visits c.from-at.result) c.in_ok-push.ensures.items
-        ∙ ap (λ x. (c.loop-at.items.items ++ x ∷ []) ++ trail_by next.0 visits c.from-at.result) (c.item.ensures ∙ ap (item_at visits) from)
-        ∙ ap (λ n. (c.loop-at.items.items ++ item_at visits (from_at visits c.loop-at.at) ∷ []) ++ trail_by next.0 visits n) from
-        ∙ next.2,
+            ∙ ap (λ x. (c.loop-at.items.items ++ x ∷ []) ++ trail_by next.0 visits c.from-at.result) (c.item.ensures ∙ ap (item_at visits) from)
+            ∙ ap (λ n. (c.loop-at.items.items ++ item_at visits (from_at visits c.loop-at.at) ∷ []) ++ trail_by next.0 visits n) from
+            ∙ next.2,
       );
     }

@@ -1,12 +1,12 @@
-use Rattle.std.proofs.Common.{◌≡◌, ◌≢◌, ℕ, suc, ◌+◌, ◌-◌, ◌<◌, ◌≤◌, length, List, set, inl, inr, false, sym, ap, subst, ◌∙◌, arith, length-set, refl}
-use Rattle.std.specs.Prelude.{filter, not}
+use Rattle.std.proofs.Common.{◌≡◌, suc, ◌-◌, ◌<◌, ◌≤◌, length, set, inl, inr, false, sym, ap, subst, ◌∙◌, arith, length-set, refl}
+use Rattle.std.specs.Prelude.{not}
 use Rattle.std.proofs.lemmas.List.{get_or_read}
-use Rattle.std.proofs.lemmas.Bool.{cases_eq, cases_lt}
+use Rattle.std.proofs.lemmas.Bool.{cases_eq}
 use Rattle.dl_sup.specs.declared.slot.Slot.{Slot}
 use Rattle.dl_sup.specs.declared.slot.Way.{Way}
 use Rattle.dl_sup.specs.declared.slot.Way.TheVariants.{Down, Up}
 use Rattle.dl_sup.specs.Links.{names_item}
-use Rattle.dl_sup.specs.Slots.{near, older, live, slot_at, no_slot, IsAlive, KeepsSlots}
+use Rattle.dl_sup.specs.Slots.{near, older, slot_at, no_slot, IsAlive}
 use Rattle.dl_sup.proofs.Slots.{KeepsSlots-gone, KeepsSlots-then, dead_there, filter-live_set, names_near, near_same, IsChained-kept}
 use Rattle.dl_sup.proofs.table.drop_chain.Goals as goal
 

@@ -1,7 +1,6 @@
-use Rattle.std.proofs.Common.{◌≡◌, ℕ, ◌<◌, length, Some, true, false, sym, ap, subst, ◌∙◌, true≢false, rules}
+use Rattle.std.proofs.Common.{◌≡◌, ◌<◌, length, sym, ap, subst, ◌∙◌, true≢false, rules}
 use Rattle.std.proofs.lemmas.List.{get_or_read}
 use Rattle.dl_sup.specs.declared.slot.Slot.{Slot}
-use Rattle.dl_sup.specs.Links.{same_link}
 use Rattle.dl_sup.specs.Slots.{slot_at, no_slot}
 use Rattle.dl_sup.proofs.LinkLemmas.{same_link_same}
 use Rattle.dl_sup.proofs.Slots.{stands_found, alive_within}

@@ -1,5 +1,5 @@
-use Rattle.std.proofs.Common.{◌≡◌, List, false, true, sym, subst, ◌∙◌, true≢false, rules}
-use Rattle.std.specs.Prelude.{not, Contains}
+use Rattle.std.proofs.Common.{List, sym, subst, ◌∙◌, true≢false, rules}
+use Rattle.std.specs.Prelude.{not}
 use Rattle.dl_sup.specs.declared.link.Link.{Link}
 use Rattle.dl_sup.specs.Links.{IsOrder, same_link, link}
 use Rattle.dl_sup.proofs.Links.{IsOrder-filter}

@@ -1,9 +1,8 @@
-use Rattle.std.proofs.Common.{◌≡◌, ◌≢◌, ℕ, List, sym, ap, ◌∙◌}
+use Rattle.std.proofs.Common.{List, sym, ap, ◌∙◌}
 use Rattle.std.specs.Prelude.{filter, not}
 use Rattle.dl_sup.specs.declared.link.Link.{Link}
 use Rattle.dl_sup.specs.declared.slot.Way.TheVariants.{Down}
 use Rattle.dl_sup.specs.Links.{names_item}
-use Rattle.dl_sup.specs.Slots.{near, slot_at, IsAlive}
 use Rattle.dl_sup.proofs.Slots.{near_same, none_names}
 use Rattle.dl_sup.proofs.table.Table.drop_item.Goals as goal
 

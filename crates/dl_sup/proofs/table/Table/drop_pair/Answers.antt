@@ -1,4 +1,4 @@
-use Rattle.std.proofs.Common.{◌≡◌, ℕ, Bool, true, false, Some, List, get_or, set, length, refl, sym, ap, subst, ◌∙◌}
+use Rattle.std.proofs.Common.{◌≡◌, ℕ, false, Some, List, get_or, set, refl, sym, ap, subst, ◌∙◌}
 use Rattle.std.specs.Prelude.{filter, not, Contains}
 use Rattle.std.proofs.lemmas.List.{get_or_read}
 use Rattle.dl_sup.specs.declared.link.Link.{Link}

@@ -1,7 +1,6 @@
-use Rattle.std.proofs.Common.{◌≡◌, List, is_some, subst, sym, ◌∙◌, ap}
+use Rattle.std.proofs.Common.{List, is_some, subst, sym, ◌∙◌, ap}
 use Rattle.std.specs.Prelude.{◌↔◌, IsTrue, Contains}
 use Rattle.dl_sup.specs.declared.link.Link.{Link}
-use Rattle.dl_sup.specs.declared.slot.Slot.{Slot}
 use Rattle.dl_sup.specs.Slots.{live}
 use Rattle.dl_sup.proofs.Slots.{is_some_iff, found_has}
 use Rattle.dl_sup.proofs.table.Table.has.Goals as goal

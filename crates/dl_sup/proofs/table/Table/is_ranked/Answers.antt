@@ -1,4 +1,4 @@
-use Rattle.std.proofs.Common.{ℕ, ◌<◌, List, ap, subst, ◌∙◌}
+use Rattle.std.proofs.Common.{◌<◌, List, ap, subst, ◌∙◌}
 use Rattle.dl_base.specs.Paths.{HasCycle}
 use Rattle.dl_sup.specs.declared.link.Link.{Link}
 use Rattle.dl_sup.specs.Links.{IsOver, link}
@@ -12,5 +12,5 @@ returns c = λ ranked.
     subst (λ (ps : List Link). ¬ HasCycle (IsOver ps)) (ap live c.as_slice-2.ensures.value ∙ c.self.view_is)
     (ranked_acyclic (live c.as_slice-2.result.now) (head_of c.in_ok-ranks.ranks)
     (λ x y m.
-        let s = live_from c.as_slice-2.result.now (link x y) m in
-        subst (λ (q : Link). head_of c.in_ok-ranks.ranks q.upper < head_of c.in_ok-ranks.ranks q.lower) s.2 (c.rises.ensures ranked s.0 s.1)))
+    let s = live_from c.as_slice-2.result.now (link x y) m in
+    subst (λ (q : Link). head_of c.in_ok-ranks.ranks q.upper < head_of c.in_ok-ranks.ranks q.lower) s.2 (c.rises.ensures ranked s.0 s.1)))

@@ -1,11 +1,9 @@
-use Rattle.std.proofs.Common.{◌≡◌, ◌≢◌, ℕ, suc, ◌+◌, ◌<◌, Bool, true, false, cond, eqb, List, [], ◌∷◌, ◌++◌, Option, Some, length, get_or, set, inl, refl, sym, ap, subst, ◌∙◌, arith, true≢false, length-append, rules}
+use Rattle.std.proofs.Common.{◌≡◌, ℕ, ◌+◌, ◌<◌, Bool, true, false, cond, eqb, List, [], ◌∷◌, ◌++◌, Some, length, get_or, set, inl, refl, sym, ap, subst, ◌∙◌, arith, true≢false, length-append, rules}
 use Rattle.std.specs.Prelude.{Contains}
 use Rattle.std.proofs.lemmas.List.{get_or_read, get_or_push, set_at}
 use Rattle.dl_sup.specs.declared.link.Link.{Link}
 use Rattle.dl_sup.specs.declared.slot.Slot.{Slot}
-use Rattle.dl_sup.specs.declared.slot.Way.TheVariants.{Down, Up}
-use Rattle.dl_sup.specs.Links.{same_link}
-use Rattle.dl_sup.specs.Slots.{place_of, head_of, slot_at, no_slot, IsAlive, live, IsKept}
+use Rattle.dl_sup.specs.Slots.{place_of, head_of, slot_at, no_slot, live, IsKept}
 use Rattle.dl_sup.proofs.LinkLemmas.{same_link_same, same_link_apart}
 use Rattle.dl_sup.proofs.Slots.{IsKept-pushed, raised, raised_here, live_alive, live_has}
 use Rattle.dl_sup.proofs.table.Table.put.Goals as goal
@@ -60,14 +58,14 @@ invariant_of-self-2 c =
     subst (λ (xs : List Slot). IsKept xs c.put-3.new.self c.put.new.self c.put-2.new.self) (sym (written slots c.push.new.self.items c.len-at.result d c.index_mut-slot.result.now c.in_ok-push.ensures.items at c.index_mut-slot.ensures.value))
     (IsKept-pushed slots (record d { alive = true }) c.self.inside.places c.put-3.new.self c.self.inside.downs c.self.inside.ups c.put.new.self c.put-2.new.self c.self.invariant
     (λ t a.
-        c.in_ok-put-3.ensures.put (slot_at slots t).link
-        ∙ ap (λ (b : Bool). cond b (Some c.len-at.result) (place_of c.self.inside.places (slot_at slots t).link))
-        (same_link_apart c.args.pair (slot_at slots t).link
-        (λ e. c.requires (subst (λ (ps : List Link). Contains ps c.args.pair) c.self.view_is (subst (Contains (live slots)) (sym e) (live_has slots t a))))))
+    c.in_ok-put-3.ensures.put (slot_at slots t).link
+    ∙ ap (λ (b : Bool). cond b (Some c.len-at.result) (place_of c.self.inside.places (slot_at slots t).link))
+    (same_link_apart c.args.pair (slot_at slots t).link
+    (λ e. c.requires (subst (λ (ps : List Link). Contains ps c.args.pair) c.self.view_is (subst (Contains (live slots)) (sym e) (live_has slots t a))))))
     (λ a.
-        c.in_ok-put-3.ensures.put c.args.pair
-        ∙ ap (λ (b : Bool). cond b (Some c.len-at.result) (place_of c.self.inside.places c.args.pair)) (same_link_same c.args.pair c.args.pair refl)
-        ∙ ap Some at)
+    c.in_ok-put-3.ensures.put c.args.pair
+    ∙ ap (λ (b : Bool). cond b (Some c.len-at.result) (place_of c.self.inside.places c.args.pair)) (same_link_same c.args.pair c.args.pair refl)
+    ∙ ap Some at)
     c.get.ensures c.get-2.ensures
     (raised c.self.inside.downs c.put.new.self c.args.pair.upper (length slots) put_down)
     (raised c.self.inside.ups c.put-2.new.self c.args.pair.lower (length slots) put_up)

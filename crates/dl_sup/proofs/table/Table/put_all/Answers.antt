@@ -1,4 +1,4 @@
-use Rattle.std.proofs.Common.{◌≡◌, List, [], ◌∷◌, ◌++◌, take, get_or, append_assoc, true≢false, sym, ap, subst, ◌∙◌}
+use Rattle.std.proofs.Common.{List, [], ◌∷◌, ◌++◌, take, get_or, append_assoc, true≢false, sym, ap, subst, ◌∙◌}
 use Rattle.std.proofs.lemmas.List.{take_more}
 use Rattle.dl_base.specs.Paths.{IsDistinct}
 use Rattle.dl_base.proofs.Distinct.{distinct_push}
