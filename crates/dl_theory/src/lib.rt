@@ -17,6 +17,8 @@ mod lists;
 mod rule;
 mod rules;
 mod superiority;
+#[cfg(test)]
+mod tests;
 mod theory;
 
 pub use answer::{Answer, Certificate, Verdict};
