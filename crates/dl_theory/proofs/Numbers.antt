@@ -124,10 +124,10 @@ module _ (items : List (List ℕ)) (links : List Link) (pairs : List Pair) (h : 
         let upper : place items p.upper ≡ l.upper = place_is items h.distinct l.upper p.upper number.within.0 upper_name in (
           map (place items) c.0,
           subst (λ (n : ℕ). IsPath (IsOver links) n l.upper (map (place items) c.0)) lower
-          (subst (λ (n : ℕ). IsPath (IsOver links) (place items p.lower) n (map (place items) c.0)) upper
-          (path_mapped (IsAbove pairs) (IsOver links) (place items) (λ x. label_at items (place items x) ≡ x) above_over
-          (λ x y kx ky e. sym kx ∙ ap (label_at items) e ∙ ky)
-          p.lower p.upper c.0 (ap (label_at items) lower ∙ lower_name) c.1)),
+              (subst (λ (n : ℕ). IsPath (IsOver links) (place items p.lower) n (map (place items) c.0)) upper
+              (path_mapped (IsAbove pairs) (IsOver links) (place items) (λ x. label_at items (place items x) ≡ x) above_over
+              (λ x y kx ky e. sym kx ∙ ap (label_at items) e ∙ ky)
+              p.lower p.upper c.0 (ap (label_at items) lower ∙ lower_name) c.1)),
         )
 
     pub not_closing : (¬ ClosesCycle links l) → ¬ Closes pairs p

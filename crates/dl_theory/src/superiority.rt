@@ -11,9 +11,9 @@ ghost use Rattle.dl_theory.specs.Pairs.{pair_eq, Closes, label_at, IsWithin, IsN
 ghost use Rattle.dl_theory.specs.Superiority.{IsPairStop, IsLinkStop, AddsAll, OrdersAll, moved_back};
 ghost use Rattle.std.specs.Option.{option_map_or, option_map, IfSome};
 
+use crate::labels::{append_label, place_of};
 use crate::lists::Path;
 use crate::rule::Pair;
-use crate::labels::{append_label, place_of};
 use crate::theory::LIMIT;
 use dl_lit::{Memory, Name};
 use dl_sup::{Link, LoadStop, Order, SupStop};
@@ -110,10 +110,7 @@ impl Superiority {
     }
 
     /// The pairs of a list, or those before the first that is refused.
-    pub fn load(
-        alloc: Global,
-        pairs: &[Pair],
-    ) -> Result<(Superiority, Option<PairRefused>), Memory>
+    pub fn load(alloc: Global, pairs: &[Pair]) -> Result<(Superiority, Option<PairRefused>), Memory>
         ensures { IfOk result (λ r. AddsAll [] r.0 pairs.now r.1) }
     {
         let mut items = IndexSet::new(alloc);
@@ -390,7 +387,11 @@ fn add_link(alloc: Global, items: &[Name], order: &mut Order, link: Link) -> Res
     match order.add(link.upper, link.lower) {
         Ok(()) => Ok(()),
         Err(SupStop::There) => unreachable!(),
-        Err(SupStop::Cycle(track)) => Err(PairStop::Cycle(path_of(alloc, items, track.as_slice())?)),
+        Err(SupStop::Cycle(track)) => Err(PairStop::Cycle(path_of(
+            alloc,
+            items,
+            track.as_slice(),
+        )?)),
         Err(SupStop::Memory) => Err(PairStop::Memory),
     }
 }
