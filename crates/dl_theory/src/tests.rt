@@ -43,9 +43,27 @@ fn add_pair(rt: &impl Abort, alloc: Global, upper: &str, lower: &str) -> Edit {
 /// A theory with the rules r1, r2 and r3.
 fn three_rules(rt: &impl Abort, alloc: Global) -> Theory {
     let mut theory = Theory::make(alloc);
-    expect(rt, alloc, &mut theory, Edit::AddRule(rule(rt, alloc, "r1")), "ok");
-    expect(rt, alloc, &mut theory, Edit::AddRule(rule(rt, alloc, "r2")), "ok");
-    expect(rt, alloc, &mut theory, Edit::AddRule(rule(rt, alloc, "r3")), "ok");
+    expect(
+        rt,
+        alloc,
+        &mut theory,
+        Edit::AddRule(rule(rt, alloc, "r1")),
+        "ok",
+    );
+    expect(
+        rt,
+        alloc,
+        &mut theory,
+        Edit::AddRule(rule(rt, alloc, "r2")),
+        "ok",
+    );
+    expect(
+        rt,
+        alloc,
+        &mut theory,
+        Edit::AddRule(rule(rt, alloc, "r3")),
+        "ok",
+    );
     theory
 }
 
@@ -107,16 +125,76 @@ fn expect(rt: &impl Abort, alloc: Global, theory: &mut Theory, edit: Edit, want:
 fn pairs_are_added_and_dropped_by_the_rows(rt: HostRuntime) {
     let alloc = rt.alloc();
     let mut theory = three_rules(&rt, alloc);
-    expect(&rt, alloc, &mut theory, add_pair(&rt, alloc, "r1", "r2"), "ok");
-    expect(&rt, alloc, &mut theory, add_pair(&rt, alloc, "r2", "r3"), "ok");
-    expect(&rt, alloc, &mut theory, add_pair(&rt, alloc, "r3", "r1"), "cycle r1 r2 r3");
-    expect(&rt, alloc, &mut theory, Edit::DropRule(name(&rt, alloc, "r2")), "ok");
-    expect(&rt, alloc, &mut theory, Edit::DropPair(pair(&rt, alloc, "r1", "r2")), "no pair");
-    expect(&rt, alloc, &mut theory, add_pair(&rt, alloc, "r3", "r1"), "ok");
-    expect(&rt, alloc, &mut theory, add_pair(&rt, alloc, "zz", "yy"), "no label zz");
-    expect(&rt, alloc, &mut theory, add_pair(&rt, alloc, "r3", "r1"), "pair there");
-    expect(&rt, alloc, &mut theory, add_pair(&rt, alloc, "r1", "r1"), "cycle r1");
-    expect(&rt, alloc, &mut theory, Edit::DropPair(pair(&rt, alloc, "r3", "r1")), "ok");
+    expect(
+        &rt,
+        alloc,
+        &mut theory,
+        add_pair(&rt, alloc, "r1", "r2"),
+        "ok",
+    );
+    expect(
+        &rt,
+        alloc,
+        &mut theory,
+        add_pair(&rt, alloc, "r2", "r3"),
+        "ok",
+    );
+    expect(
+        &rt,
+        alloc,
+        &mut theory,
+        add_pair(&rt, alloc, "r3", "r1"),
+        "cycle r1 r2 r3",
+    );
+    expect(
+        &rt,
+        alloc,
+        &mut theory,
+        Edit::DropRule(name(&rt, alloc, "r2")),
+        "ok",
+    );
+    expect(
+        &rt,
+        alloc,
+        &mut theory,
+        Edit::DropPair(pair(&rt, alloc, "r1", "r2")),
+        "no pair",
+    );
+    expect(
+        &rt,
+        alloc,
+        &mut theory,
+        add_pair(&rt, alloc, "r3", "r1"),
+        "ok",
+    );
+    expect(
+        &rt,
+        alloc,
+        &mut theory,
+        add_pair(&rt, alloc, "zz", "yy"),
+        "no label zz",
+    );
+    expect(
+        &rt,
+        alloc,
+        &mut theory,
+        add_pair(&rt, alloc, "r3", "r1"),
+        "pair there",
+    );
+    expect(
+        &rt,
+        alloc,
+        &mut theory,
+        add_pair(&rt, alloc, "r1", "r1"),
+        "cycle r1",
+    );
+    expect(
+        &rt,
+        alloc,
+        &mut theory,
+        Edit::DropPair(pair(&rt, alloc, "r3", "r1")),
+        "ok",
+    );
     assert!(rt; theory.pairs_len() == 0 && theory.rules_len() == 2);
 }
 
@@ -124,12 +202,48 @@ fn pairs_are_added_and_dropped_by_the_rows(rt: HostRuntime) {
 fn facts_and_rules_are_added_once(rt: HostRuntime) {
     let alloc = rt.alloc();
     let mut theory = three_rules(&rt, alloc);
-    expect(&rt, alloc, &mut theory, Edit::AddRule(rule(&rt, alloc, "r2")), "label there");
-    expect(&rt, alloc, &mut theory, Edit::DropRule(name(&rt, alloc, "zz")), "no label zz");
-    expect(&rt, alloc, &mut theory, Edit::AddFact(literal(&rt, alloc, "q")), "ok");
-    expect(&rt, alloc, &mut theory, Edit::AddFact(literal(&rt, alloc, "q")), "fact there");
-    expect(&rt, alloc, &mut theory, Edit::DropFact(literal(&rt, alloc, "q")), "ok");
-    expect(&rt, alloc, &mut theory, Edit::DropFact(literal(&rt, alloc, "q")), "no fact");
+    expect(
+        &rt,
+        alloc,
+        &mut theory,
+        Edit::AddRule(rule(&rt, alloc, "r2")),
+        "label there",
+    );
+    expect(
+        &rt,
+        alloc,
+        &mut theory,
+        Edit::DropRule(name(&rt, alloc, "zz")),
+        "no label zz",
+    );
+    expect(
+        &rt,
+        alloc,
+        &mut theory,
+        Edit::AddFact(literal(&rt, alloc, "q")),
+        "ok",
+    );
+    expect(
+        &rt,
+        alloc,
+        &mut theory,
+        Edit::AddFact(literal(&rt, alloc, "q")),
+        "fact there",
+    );
+    expect(
+        &rt,
+        alloc,
+        &mut theory,
+        Edit::DropFact(literal(&rt, alloc, "q")),
+        "ok",
+    );
+    expect(
+        &rt,
+        alloc,
+        &mut theory,
+        Edit::DropFact(literal(&rt, alloc, "q")),
+        "no fact",
+    );
     assert!(rt; theory.fact(0).is_none() && theory.rule(2).is_some());
 }
 
@@ -142,10 +256,34 @@ fn a_full_list_of_facts_refuses_one_more(rt: HostRuntime) {
         let done = theory.apply_owned(Edit::AddFact(literal(&rt, alloc, text.as_str())));
         assert!(rt; done.is_ok());
     }
-    expect(&rt, alloc, &mut theory, Edit::AddFact(literal(&rt, alloc, "q")), "facts full");
-    expect(&rt, alloc, &mut theory, Edit::AddFact(literal(&rt, alloc, "p0")), "fact there");
-    expect(&rt, alloc, &mut theory, Edit::DropFact(literal(&rt, alloc, "p0")), "ok");
-    expect(&rt, alloc, &mut theory, Edit::AddFact(literal(&rt, alloc, "q")), "ok");
+    expect(
+        &rt,
+        alloc,
+        &mut theory,
+        Edit::AddFact(literal(&rt, alloc, "q")),
+        "facts full",
+    );
+    expect(
+        &rt,
+        alloc,
+        &mut theory,
+        Edit::AddFact(literal(&rt, alloc, "p0")),
+        "fact there",
+    );
+    expect(
+        &rt,
+        alloc,
+        &mut theory,
+        Edit::DropFact(literal(&rt, alloc, "p0")),
+        "ok",
+    );
+    expect(
+        &rt,
+        alloc,
+        &mut theory,
+        Edit::AddFact(literal(&rt, alloc, "q")),
+        "ok",
+    );
     assert!(rt; theory.facts_len() == 1_000_000);
 }
 
@@ -171,8 +309,20 @@ fn several_pairs_stop_at_the_first_that_is_refused(rt: HostRuntime) {
 fn a_copy_has_all_of_its_theory(rt: HostRuntime) {
     let alloc = rt.alloc();
     let mut theory = three_rules(&rt, alloc);
-    expect(&rt, alloc, &mut theory, Edit::AddFact(literal(&rt, alloc, "q")), "ok");
-    expect(&rt, alloc, &mut theory, add_pair(&rt, alloc, "r1", "r2"), "ok");
+    expect(
+        &rt,
+        alloc,
+        &mut theory,
+        Edit::AddFact(literal(&rt, alloc, "q")),
+        "ok",
+    );
+    expect(
+        &rt,
+        alloc,
+        &mut theory,
+        add_pair(&rt, alloc, "r1", "r2"),
+        "ok",
+    );
     match theory.copy() {
         Ok(copy) => {
             assert!(rt; copy.facts().len() == 1 && copy.rules().len() == 3);
