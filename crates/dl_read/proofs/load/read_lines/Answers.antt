@@ -3,8 +3,19 @@ use Rattle.std.proofs.lemmas.Result.{err_from_is_err_and, MatchResult-weaker}
 use Rattle.dl_read.specs.declared.statement.Statement.{Statement}
 use Rattle.dl_read.specs.Files.{lines_of}
 use Rattle.dl_read.specs.Loading.{HasRead}
-use Rattle.dl_read.proofs.Files.{first_is, number_of, reached_more, reached_end, reached_stop, loads_so, stops_so}
+use Rattle.dl_read.proofs.Files.{first_is, number_of, reached_none, reached_more, reached_end, reached_stop, loads_so, stops_so}
 use Rattle.dl_read.proofs.load.read_lines.Goals as goal
+
+pub lines-init : goal.lines-init
+lines-init c = record {
+  reached = reached_none c.args.bytes.now c.make-loader.result c.make-loader.ensures;
+  room = omega arith;
+}
+
+pub returns-in_err-load-clause-stopped : goal.returns-in_err-load-clause-stopped
+returns-in_err-load-clause-stopped c =
+    let p = err_from_is_err_and c.from_residual-in_err-load.result c.from_residual-in_err-load.ensures.1 in
+    rw (p.1, p.2) tt
 
 pub returns-in_err-statement-clause-stopped : goal.returns-in_err-statement-clause-stopped
 returns-in_err-statement-clause-stopped c =
