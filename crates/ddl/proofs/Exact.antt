@@ -1,14 +1,18 @@
 -- A file loads or is refused, and not both; so the statuses exclude one another.
-use Rattle.std.proofs.Common.{◌≡◌, ◌∙◌, ℕ, List, Option, Some, refl, sym, subst, arith}
+use Rattle.std.proofs.Common.{◌≡◌, ◌∙◌, ◌⊎◌, inl, inr, ℕ, true, List, Option, Some, refl, subst, arith}
+use Rattle.dl_io.specs.Outside.{Rose}
+use Rattle.dl_io.specs.House.{HouseState}
 use Rattle.dl_theory.specs.Lists.{TheoryLists}
 use Rattle.dl_read.specs.declared.file.ReadStop.TheVariants as stop
 use Rattle.dl_read.proofs.Unique.{loads_or_stops}
 use Rattle.ddl.specs.declared.refusal.Refusal.{Refusal}
 use Rattle.ddl.specs.declared.refusal.Refusal.TheVariants.{Size, Form, Variables, Edit}
 use Rattle.ddl.specs.declared.status.Status.TheVariants as status
+use Rattle.ddl.specs.declared.status.Status.{Status}
 use Rattle.ddl.specs.Words as words
+use Rattle.ddl.specs.Words.{form}
 use Rattle.ddl.specs.Theories.{IsTheoryFile, IsRefusal}
-use Rattle.ddl.specs.Run.{Outcome, Shows, usage, refused, concluded, printed}
+use Rattle.ddl.specs.Run.{Outcome, Shows, usage, refused, concluded, printed, Answers}
 
 pub not_both : (bytes : List ℕ) (T : TheoryLists) (x : Refusal) → IsTheoryFile bytes T → IsRefusal bytes x → ⊥
 not_both bytes T Size t h = absurd (omega (arith, t.0, h))
@@ -18,3 +22,39 @@ not_both bytes T (Edit line x) t h = let e = loads_or_stops bytes T (stop.Edit l
 
 same_bytes : (held : Option (List ℕ)) (a b : List ℕ) → held ≡ Some a → held ≡ Some b → a ≡ b
 same_bytes held a b h i = cc
+
+module _ (holds : List ℕ → Option (List ℕ)) (asked : words.Form) (bytes : List ℕ) (held : holds (words.file_of asked) ≡ Some bytes) where
+  bytes_of : (a : words.Form) (b : List ℕ) → Some a ≡ Some asked → holds (words.file_of a) ≡ Some b → bytes ≡ b
+  bytes_of a b i h =
+      let same : a ≡ asked = cc in
+      same_bytes (holds (words.file_of asked)) bytes b held (subst (λ (f : words.Form). holds (words.file_of f) ≡ Some b) same h)
+
+  -- where the file loads, the words are answered
+  pub loads_done : (T : TheoryLists) → IsTheoryFile bytes T → (form : Option words.Form) (outcome : Outcome) → form ≡ Some asked → Shows holds form outcome
+      → outcome.status ≡ status.Done
+  loads_done T t form outcome e s =
+      elim s as (λ f o _. f ≡ Some asked → o.status ≡ status.Done) [
+        | usage ↦ λ i. absurd (cc)
+        | refused a b x h r ↦ λ i. absurd (not_both b T x (subst (λ (y : List ℕ). IsTheoryFile y T) (bytes_of a b i h) t) r)
+        | concluded f file b U cs h u c ↦ λ i. refl
+        | printed file b U h u ↦ λ i. refl
+      ] e
+
+  -- where the file is refused, so are the words
+  pub refused_refused : (x : Refusal) → IsRefusal bytes x → (form : Option words.Form) (outcome : Outcome) → form ≡ Some asked → Shows holds form outcome
+      → outcome.status ≡ status.Refused
+  refused_refused x r form outcome e s =
+      elim s as (λ f o _. f ≡ Some asked → o.status ≡ status.Refused) [
+        | usage ↦ λ i. absurd (cc)
+        | refused a b y h q ↦ λ i. refl
+        | concluded f file b U cs h u c ↦ λ i. absurd (not_both b U x u (subst (λ (y : List ℕ). IsRefusal y x) (bytes_of (words.Conclude f file) b i h) r))
+        | printed file b U h u ↦ λ i. absurd (not_both b U x u (subst (λ (y : List ℕ). IsRefusal y x) (bytes_of (words.Print file) b i h) r))
+      ] e
+
+-- what the house's count did not stop ends as its outcome does, or for want of memory
+module _ (old new : HouseState) (words : List (List ℕ)) (ends expected : Status) (calm : Rose old.faults new.faults → ⊥)
+    (only : (outcome : Outcome) → Shows old.holds (form words) outcome → outcome.status ≡ expected) where
+  pub ends_so : Answers true old new words ends → (ends ≡ expected) ⊎ (ends ≡ status.Memory)
+  ends_so (inl says) = let o = says.shown refl in inl (o.2 ∙ only o.0 o.1)
+  ends_so (inr (inl fails)) = absurd (calm fails.rose)
+  ends_so (inr (inr lacks)) = inr lacks.memory

@@ -50,6 +50,7 @@ fn said<R: Threads + Wait + Sync>(
 }
 
 const CONCLUDE: &[&str] = &["conclude", "D", "t"];
+
 const PRINT: &[&str] = &["print", "t"];
 
 struct Row {
@@ -76,22 +77,70 @@ fn row(
 #[test]
 fn files_are_answered(rt: HostRuntime) -> Result<(), Fail> {
     let rows = [
-        row(CONCLUDE, ">> penguin\nr1: penguin -> bird\nr2: bird -> animal\n", Status::Done,
-            "+D animal\n-D -animal\n+D bird\n-D -bird\n+D penguin\n-D -penguin\n"),
+        row(
+            CONCLUDE,
+            ">> penguin\nr1: penguin -> bird\nr2: bird -> animal\n",
+            Status::Done,
+            "+D animal\n-D -animal\n+D bird\n-D -bird\n+D penguin\n-D -penguin\n",
+        ),
         row(CONCLUDE, "r: p -> p", Status::Done, "?D p\n-D -p\n"),
         row(CONCLUDE, "", Status::Done, ""),
-        row(CONCLUDE, "r1: p => q # (X)\n", Status::Done, "-D p\n-D -p\n-D q\n-D -q\n"),
+        row(
+            CONCLUDE,
+            "r1: p => q # (X)\n",
+            Status::Done,
+            "-D p\n-D -p\n-D q\n-D -q\n",
+        ),
         row(CONCLUDE, ">> p\n>> -p\n", Status::Done, "+D p\n+D -p\n"),
-        row(CONCLUDE, ">> a\n>> a\n", Status::Refused, "refused line 2 fact\n"),
-        row(CONCLUDE, "r: -> a\nr: -> b\n", Status::Refused, "refused line 2 label r\n"),
-        row(CONCLUDE, "r1: p(X) => q\n", Status::Refused, "refused line 1 variables\n"),
-        row(CONCLUDE, "# 1\n>> 1\n", Status::Refused, "refused line 2 form\n"),
-        row(CONCLUDE, "r > s\n", Status::Refused, "refused line 1 unknown r\n"),
+        row(
+            CONCLUDE,
+            ">> a\n>> a\n",
+            Status::Refused,
+            "refused line 2 fact\n",
+        ),
+        row(
+            CONCLUDE,
+            "r: -> a\nr: -> b\n",
+            Status::Refused,
+            "refused line 2 label r\n",
+        ),
+        row(
+            CONCLUDE,
+            "r1: p(X) => q\n",
+            Status::Refused,
+            "refused line 1 variables\n",
+        ),
+        row(
+            CONCLUDE,
+            "# 1\n>> 1\n",
+            Status::Refused,
+            "refused line 2 form\n",
+        ),
+        row(
+            CONCLUDE,
+            "r > s\n",
+            Status::Refused,
+            "refused line 1 unknown r\n",
+        ),
         row(PRINT, "r[O]: => pay\n", Status::Done, "r: => [O]pay\n"),
-        row(PRINT, "# notes\r\n  a,b=>-c   # body\r\n>>a\r\nr[O]: -> pay\r\nr > _2\r\n", Status::Done,
-            ">> a\n_2: a, b => -c\nr: -> [O]pay\nr > _2\n"),
-        row(PRINT, "r1: => p\nr2: => -p\nr1 > r2\nr2 > r1\n", Status::Refused, "refused line 4 cycle r1 r2\n"),
-        row(PRINT, "r: => p\nr > r\n", Status::Refused, "refused line 2 cycle r\n"),
+        row(
+            PRINT,
+            "# notes\r\n  a,b=>-c   # body\r\n>>a\r\nr[O]: -> pay\r\nr > _2\r\n",
+            Status::Done,
+            ">> a\n_2: a, b => -c\nr: -> [O]pay\nr > _2\n",
+        ),
+        row(
+            PRINT,
+            "r1: => p\nr2: => -p\nr1 > r2\nr2 > r1\n",
+            Status::Refused,
+            "refused line 4 cycle r1 r2\n",
+        ),
+        row(
+            PRINT,
+            "r: => p\nr > r\n",
+            Status::Refused,
+            "refused line 2 cycle r\n",
+        ),
     ];
     for row in rows.iter() {
         let (status, text) = said(&rt, rt.alloc(), row.words, row.file, &[], &[])?;
@@ -101,7 +150,8 @@ fn files_are_answered(rt: HostRuntime) -> Result<(), Fail> {
     Ok(())
 }
 
-const USAGE: &str = "usage: ddl conclude F FILE, print FILE, check THEORY CERT, gen N SIZE, serve THEORY NAME [NAME ...]\n";
+const USAGE: &str =
+    "usage: ddl conclude F FILE, print FILE, check THEORY CERT, gen N SIZE, serve THEORY NAME [NAME ...]\n";
 
 #[test]
 fn words_of_no_form_get_the_usage_line(rt: HostRuntime) -> Result<(), Fail> {
