@@ -53,6 +53,7 @@ const CONCLUDE: &[&str] = &["conclude", "D", "t"];
 
 const PRINT: &[&str] = &["print", "t"];
 
+#[derive(Drop)]
 struct Row {
     words: &'static [&'static str],
     file: &'static [u8],
@@ -60,7 +61,7 @@ struct Row {
     text: &'static [u8],
 }
 
-fn row(
+fn answered(
     words: &'static [&'static str],
     file: &'static str,
     status: Status,
@@ -77,65 +78,65 @@ fn row(
 #[test]
 fn files_are_answered(rt: HostRuntime) -> Result<(), Fail> {
     let rows = [
-        row(
+        answered(
             CONCLUDE,
             ">> penguin\nr1: penguin -> bird\nr2: bird -> animal\n",
             Status::Done,
             "+D animal\n-D -animal\n+D bird\n-D -bird\n+D penguin\n-D -penguin\n",
         ),
-        row(CONCLUDE, "r: p -> p", Status::Done, "?D p\n-D -p\n"),
-        row(CONCLUDE, "", Status::Done, ""),
-        row(
+        answered(CONCLUDE, "r: p -> p", Status::Done, "?D p\n-D -p\n"),
+        answered(CONCLUDE, "", Status::Done, ""),
+        answered(
             CONCLUDE,
             "r1: p => q # (X)\n",
             Status::Done,
             "-D p\n-D -p\n-D q\n-D -q\n",
         ),
-        row(CONCLUDE, ">> p\n>> -p\n", Status::Done, "+D p\n+D -p\n"),
-        row(
+        answered(CONCLUDE, ">> p\n>> -p\n", Status::Done, "+D p\n+D -p\n"),
+        answered(
             CONCLUDE,
             ">> a\n>> a\n",
             Status::Refused,
             "refused line 2 fact\n",
         ),
-        row(
+        answered(
             CONCLUDE,
             "r: -> a\nr: -> b\n",
             Status::Refused,
             "refused line 2 label r\n",
         ),
-        row(
+        answered(
             CONCLUDE,
             "r1: p(X) => q\n",
             Status::Refused,
             "refused line 1 variables\n",
         ),
-        row(
+        answered(
             CONCLUDE,
             "# 1\n>> 1\n",
             Status::Refused,
             "refused line 2 form\n",
         ),
-        row(
+        answered(
             CONCLUDE,
             "r > s\n",
             Status::Refused,
             "refused line 1 unknown r\n",
         ),
-        row(PRINT, "r[O]: => pay\n", Status::Done, "r: => [O]pay\n"),
-        row(
+        answered(PRINT, "r[O]: => pay\n", Status::Done, "r: => [O]pay\n"),
+        answered(
             PRINT,
             "# notes\r\n  a,b=>-c   # body\r\n>>a\r\nr[O]: -> pay\r\nr > _2\r\n",
             Status::Done,
             ">> a\n_2: a, b => -c\nr: -> [O]pay\nr > _2\n",
         ),
-        row(
+        answered(
             PRINT,
             "r1: => p\nr2: => -p\nr1 > r2\nr2 > r1\n",
             Status::Refused,
             "refused line 4 cycle r1 r2\n",
         ),
-        row(
+        answered(
             PRINT,
             "r: => p\nr > r\n",
             Status::Refused,
