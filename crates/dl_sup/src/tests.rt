@@ -45,7 +45,7 @@ fn pairs_come_at_once(rt: HostRuntime) -> Result<(), Fail> {
         ),
         _ => return Err("4 above 0 closes a cycle".into()),
     }
-    assert!(rt; order.above(0, 1));
+    assert!(rt; order.copy()?.above(0, 1));
     Ok(())
 }
 
