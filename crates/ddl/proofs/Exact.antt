@@ -1,5 +1,5 @@
 -- A file loads or is refused, and not both; so the statuses exclude one another.
-use Rattle.std.proofs.Common.{◌≡◌, ◌∙◌, ◌⊎◌, inl, inr, ℕ, true, List, Option, Some, refl, subst, arith}
+use Rattle.std.proofs.Common.{◌≡◌, ◌∙◌, ◌⊎◌, inl, inr, ℕ, true, List, Option, Some, refl, sym, subst, arith}
 use Rattle.dl_io.specs.Outside.{Rose}
 use Rattle.dl_io.specs.House.{HouseState}
 use Rattle.dl_theory.specs.Lists.{TheoryLists}
@@ -12,7 +12,7 @@ use Rattle.ddl.specs.declared.status.Status.{Status}
 use Rattle.ddl.specs.Words as words
 use Rattle.ddl.specs.Words.{form}
 use Rattle.ddl.specs.Theories.{IsTheoryFile, IsRefusal}
-use Rattle.ddl.specs.Run.{Outcome, Shows, usage, refused, concluded, printed, Answers}
+use Rattle.ddl.specs.Run.{Outcome, Shows, usage, refused, concluded, printed, too_large, checked, Answers}
 
 pub not_both : (bytes : List ℕ) (T : TheoryLists) (x : Refusal) → IsTheoryFile bytes T → IsRefusal bytes x → ⊥
 not_both bytes T Size t h = absurd (omega (arith, t.0, h))
@@ -30,17 +30,22 @@ module _ (holds : List ℕ → Option (List ℕ)) (asked : words.Form) (bytes : 
       same_bytes (holds (words.file_of asked)) bytes b held (subst (λ (f : words.Form). holds (words.file_of f) ≡ Some b) same h)
 
   -- where the file loads, the words are answered
-  pub loads_done : (T : TheoryLists) → IsTheoryFile bytes T → (form : Option words.Form) (outcome : Outcome) → form ≡ Some asked → Shows holds form outcome
+  pub loads_done : words.IsAlone asked → (T : TheoryLists) → IsTheoryFile bytes T → (form : Option words.Form) (outcome : Outcome) → form ≡ Some asked → Shows holds form outcome
       → outcome.status ≡ status.Done
-  loads_done T t form outcome e s =
+  loads_done alone T t form outcome e s =
       elim s as (λ f o _. f ≡ Some asked → o.status ≡ status.Done) [
         | usage ↦ λ i. absurd (cc)
         | refused a b x h r ↦ λ i. absurd (not_both b T x (subst (λ (y : List ℕ). IsTheoryFile y T) (bytes_of a b i h) t) r)
         | concluded f file b U cs h u c ↦ λ i. refl
         | printed file b U h u ↦ λ i. refl
+        | too_large f c b m U h u k l ↦ λ i. absurd (not_alone f c i)
+        | checked f c b m U x h u k l j ↦ λ i. absurd (not_alone f c i)
       ] e
+    where
+      not_alone : (f c : List ℕ) → Some (words.Check f c) ≡ Some asked → ⊥
+      not_alone f c i = let same : words.Check f c ≡ asked = cc in subst (λ (a : words.Form). words.IsAlone a) (sym same) alone
 
-  -- where the file is refused, so are the words
+  -- where the file of the theory is refused, so are the words
   pub refused_refused : (x : Refusal) → IsRefusal bytes x → (form : Option words.Form) (outcome : Outcome) → form ≡ Some asked → Shows holds form outcome
       → outcome.status ≡ status.Refused
   refused_refused x r form outcome e s =
@@ -49,6 +54,8 @@ module _ (holds : List ℕ → Option (List ℕ)) (asked : words.Form) (bytes : 
         | refused a b y h q ↦ λ i. refl
         | concluded f file b U cs h u c ↦ λ i. absurd (not_both b U x u (subst (λ (y : List ℕ). IsRefusal y x) (bytes_of (words.Conclude f file) b i h) r))
         | printed file b U h u ↦ λ i. absurd (not_both b U x u (subst (λ (y : List ℕ). IsRefusal y x) (bytes_of (words.Print file) b i h) r))
+        | too_large f c b m U h u k l ↦ λ i. refl
+        | checked f c b m U y h u k l j ↦ λ i. absurd (not_both b U x u (subst (λ (z : List ℕ). IsRefusal z x) (bytes_of (words.Check f c) b i h) r))
       ] e
 
 -- what the house's count did not stop ends as its outcome does, or for want of memory

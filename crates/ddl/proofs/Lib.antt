@@ -2,4 +2,6 @@ pub mod Known
 pub mod Verdicts
 pub mod Loading
 pub mod Replies
+pub mod Judging
+pub mod Certifying
 pub mod Exact

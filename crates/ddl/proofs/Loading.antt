@@ -3,8 +3,7 @@ use Rattle.std.proofs.Common.{◌≡◌, ◌≤◌, ℕ, List, length, Option, N
 use Rattle.std.specs.declared.alloc.Global.{Global}
 use Rattle.ddl.specs.declared.refusal.Refusal.{Refusal}
 use Rattle.ddl.specs.declared.refusal.Refusal.TheVariants.{Size, Form, Variables, Edit}
-use Rattle.ddl.specs.declared.theory_file.Loaded.{Loaded}
-use Rattle.ddl.specs.Theories.{limit, IsLineRefusal, IsRefusal, IsLoaded, HoldsLoaded}
+use Rattle.ddl.specs.Theories.{limit, IsLineRefusal, IsRefusal}
 use Rattle.ddl.specs.Whole.{IsWhole}
 
 -- a refusal of a line is one of the file, where the file is not too large
@@ -14,8 +13,8 @@ line_refusal bytes (Form line) small h = (small, h)
 line_refusal bytes (Variables line) small h = (small, h)
 line_refusal bytes (Edit line refusal) small h = (small, h)
 
--- what is said of a file that was read is said of what it holds
-pub holds_loaded : (held : Option (List ℕ)) (whole : Option (Vec ℕ Global)) (x : Loaded) → IsSome held → IsWhole limit held whole
-    → ((bytes : List ℕ) → IsWhole limit (Some bytes) whole → IsLoaded bytes x) → HoldsLoaded held x
-holds_loaded None whole x some read gives = absurd (cc)
-holds_loaded (Some bytes) whole x some read gives = (bytes, refl, gives bytes read)
+-- what is so of a file that was read is so of what it holds
+pub holds_so : (P : List ℕ → Type 0) (held : Option (List ℕ)) (whole : Option (Vec ℕ Global)) → IsSome held → IsWhole limit held whole
+    → ((bytes : List ℕ) → IsWhole limit (Some bytes) whole → P bytes) → (bytes : List ℕ) × (held ≡ Some bytes) × P bytes
+holds_so P None whole some read gives = absurd (cc)
+holds_so P (Some bytes) whole some read gives = (bytes, refl, gives bytes read)

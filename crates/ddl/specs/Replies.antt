@@ -5,7 +5,9 @@ use Rattle.ddl.specs.declared.status.Status.{Status}
 use Rattle.ddl.specs.declared.status.Status.TheVariants as status
 use Rattle.ddl.specs.declared.reply.Reply.{Reply}
 use Rattle.ddl.specs.declared.reply.Reply.TheVariants as reply
+use Rattle.ddl.specs.declared.check.Checked.TheVariants as checked
 use Rattle.ddl.specs.Theories.{refused_line}
+use Rattle.ddl.specs.Checks.{checked_line}
 use Rattle.ddl.specs.Conclusions.{conclusions_text}
 
 abbrev pub usage_line : List ℕ
@@ -16,9 +18,12 @@ reply_status reply.Usage = status.Usage
 reply_status (reply.Refused x) = status.Refused
 reply_status (reply.Conclusions f cs) = status.Done
 reply_status (reply.Text T) = status.Done
+reply_status (reply.Checked checked.Accepted) = status.Done
+reply_status (reply.Checked (checked.Rejected line)) = status.Rejected
 
 abbrev pub reply_text : Reply → List ℕ
 reply_text reply.Usage = usage_line
 reply_text (reply.Refused x) = refused_line x
 reply_text (reply.Conclusions f cs) = conclusions_text f cs.items
 reply_text (reply.Text T) = theory_text T
+reply_text (reply.Checked x) = checked_line x

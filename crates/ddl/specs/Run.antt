@@ -1,5 +1,5 @@
 -- What a run of the program is.
-use Rattle.std.specs.Prelude.{◌≡◌, ◌⊎◌, ℕ, Bool, List, [], ◌∷◌, ◌++◌, Option, None, Some, IsTrue}
+use Rattle.std.specs.Prelude.{◌≡◌, ◌⊎◌, ℕ, ◌<◌, ◌≤◌, length, Bool, List, [], ◌∷◌, ◌++◌, Option, None, Some, IsTrue}
 use Rattle.dl_lit.specs.declared.literal.Family.{Family}
 use Rattle.dl_io.specs.Outside.{Rose, at_name}
 use Rattle.dl_io.specs.Streams.{IsFront}
@@ -10,8 +10,12 @@ use Rattle.ddl.specs.declared.status.Status.{Status}
 use Rattle.ddl.specs.declared.status.Status.TheVariants as status
 use Rattle.ddl.specs.declared.refusal.Refusal.{Refusal}
 use Rattle.ddl.specs.declared.conclusion.Conclusion.{Conclusion}
-use Rattle.ddl.specs.Words.{Form, Conclude, Print, form, file_of}
-use Rattle.ddl.specs.Theories.{IsTheoryFile, IsRefusal, refused_line}
+use Rattle.ddl.specs.declared.reply.Reply.TheVariants as reply
+use Rattle.ddl.specs.declared.refusal.Refusal.TheVariants as refusal
+use Rattle.ddl.specs.declared.check.Checked.{Checked}
+use Rattle.ddl.specs.Words.{Form, Conclude, Print, Check, form, file_of}
+use Rattle.ddl.specs.Theories.{limit, IsTheoryFile, IsRefusal, refused_line}
+use Rattle.ddl.specs.Checks.{IsChecked}
 use Rattle.ddl.specs.Conclusions.{AreConclusions, conclusions_text}
 use Rattle.ddl.specs.declared.reply.Reply.{Reply}
 use Rattle.ddl.specs.Replies.{usage_line, reply_status, reply_text}
@@ -38,11 +42,19 @@ pub data Shows (holds : List ℕ → Option (List ℕ)) : Option Form → Outcom
   -- the canonical text of the theory
   printed : (file bytes : List ℕ) (T : TheoryLists) → holds file ≡ Some bytes → IsTheoryFile bytes T
       → Shows holds (Some (Print file)) (record { status = status.Done; text = theory_text T })
+  -- the theory loads, and the certificate is too large
+  too_large : (theory cert bytes more : List ℕ) (T : TheoryLists) → holds theory ≡ Some bytes → IsTheoryFile bytes T → holds cert ≡ Some more
+      → limit < length more → Shows holds (Some (Check theory cert)) (outcome_of (reply.Refused refusal.Size))
+  -- the theory loads, and the certificate is accepted or rejected
+  checked : (theory cert bytes more : List ℕ) (T : TheoryLists) (x : Checked) → holds theory ≡ Some bytes → IsTheoryFile bytes T → holds cert ≡ Some more
+      → length more ≤ limit → IsChecked T more x → Shows holds (Some (Check theory cert)) (outcome_of (reply.Checked x))
 
 -- the files that the words name, in order
 abbrev pub files_for : Option Form → List (List ℕ)
 files_for None = []
-files_for (Some asked) = file_of asked ∷ []
+files_for (Some (Conclude f file)) = file ∷ []
+files_for (Some (Print file)) = file ∷ []
+files_for (Some (Check theory cert)) = theory ∷ cert ∷ []
 
 abbrev pub files_of : List (List ℕ) → List (List ℕ)
 files_of words = files_for (form words)
@@ -63,7 +75,9 @@ pub record ReadsOnly (old new : HouseState) (names : List (List ℕ)) : Type 0 w
 -- the statuses with which the program ends by itself, by its words
 abbrev pub MayEnd : Option Form → Status → Type 0
 MayEnd None ends = ends ≡ status.Usage
-MayEnd (Some asked) ends = (ends ≡ status.Done) ⊎ (ends ≡ status.Refused)
+MayEnd (Some (Conclude f file)) ends = (ends ≡ status.Done) ⊎ (ends ≡ status.Refused)
+MayEnd (Some (Print file)) ends = (ends ≡ status.Done) ⊎ (ends ≡ status.Refused)
+MayEnd (Some (Check theory cert)) ends = (ends ≡ status.Done) ⊎ ((ends ≡ status.Refused) ⊎ (ends ≡ status.Rejected))
 
 -- The words ask for this.
 abbrev pub IsOutcome : List (List ℕ) → (List ℕ → Option (List ℕ)) → Outcome → Type 0

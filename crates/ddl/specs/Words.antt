@@ -7,14 +7,17 @@ use Rattle.dl_lit.specs.declared.literal.Family.TheVariants.{Definite}
 use Rattle.ddl.specs.declared.words.Command.{Command}
 use Rattle.ddl.specs.declared.words.Command.TheVariants as command
 
--- what words of some form ask for: the conclusions of a file in a family, or its canonical text
+-- what words of some form ask for: the conclusions of a file in a family, its canonical text, or whether a second file is
+-- a certificate of the first
 pub data Form : Type 0 where
   Conclude : Family → List ℕ → Form
   Print : List ℕ → Form
+  Check : List ℕ → List ℕ → Form
 
 abbrev pub form_of : Command → Form
 form_of (command.Conclude file) = Conclude Definite (string_bytes file.now)
 form_of (command.Print file) = Print (string_bytes file.now)
+form_of (command.Check theory cert) = Check (string_bytes theory.now) (string_bytes cert.now)
 
 -- the families whose conclusions are built
 abbrev pub family_of : List ℕ → Option Family
@@ -29,13 +32,31 @@ abbrev pub conclude_form : List ℕ → List ℕ → Option Form
 conclude_form family [] = None
 conclude_form family (byte ∷ bytes) = option_map (λ f. Conclude f (byte ∷ bytes)) (family_of family)
 
+abbrev pub check_form : List ℕ → List ℕ → Option Form
+check_form [] cert = None
+check_form (byte ∷ bytes) [] = None
+check_form (byte ∷ bytes) (code ∷ more) = Some (Check (byte ∷ bytes) (code ∷ more))
+
+-- the form of three words
+abbrev pub form_of_three : List ℕ → List ℕ → List ℕ → Option Form
+form_of_three command second third =
+    if bytes_eq command (codes "conclude") then conclude_form second third
+    else (if bytes_eq command (codes "check") then check_form second third else None)
+
 -- the form of the words, if they have one
 abbrev pub form : List (List ℕ) → Option Form
 form (command ∷ file ∷ []) = if bytes_eq command (codes "print") then print_form file else None
-form (command ∷ family ∷ file ∷ []) = if bytes_eq command (codes "conclude") then conclude_form family file else None
+form (command ∷ second ∷ third ∷ []) = form_of_three command second third
 form words = None
 
--- the file that the words name
+-- the file of the theory that the words name
 abbrev pub file_of : Form → List ℕ
 file_of (Conclude f file) = file
 file_of (Print file) = file
+file_of (Check theory cert) = theory
+
+-- the file of the theory is the only one
+abbrev pub IsAlone : Form → Type 0
+IsAlone (Conclude f file) = Unit {0}
+IsAlone (Print file) = Unit {0}
+IsAlone (Check theory cert) = ⊥

@@ -9,6 +9,7 @@ ghost use Rattle.std.specs.Prelude.{IfOk};
 ghost use Rattle.dl_io.specs.House.{IsShut};
 ghost use Rattle.dl_io.specs.Standard.{std_house};
 
+mod check;
 mod conclusion;
 mod law;
 mod print;

@@ -5,9 +5,11 @@ ghost use Rattle.dl_io.specs.Outside.{HasCause};
 ghost use Rattle.dl_io.specs.Streams.{WritesAll};
 ghost use Rattle.dl_print.specs.Text.{refusal_text};
 ghost use Rattle.ddl.specs.Theories.{line_front, line_text, refusal_words, refused_line};
+ghost use Rattle.ddl.specs.Checks.{checked_line};
 ghost use Rattle.ddl.specs.Conclusions.{conclusion_line, conclusions_text};
 ghost use Rattle.ddl.specs.Replies.{usage_line, reply_text};
 
+use crate::check::Checked;
 use crate::conclusion::Conclusion;
 use crate::refusal::Refusal;
 use crate::reply::Reply;
@@ -94,6 +96,27 @@ fn write_conclusions<S: Sink>(
     Ok(())
 }
 
+fn write_rejected<S: Sink>(sink: &mut S, line: u64) -> Result<(), Failed>
+    ensures bytes { WritesAll (S.written sink.old) (S.written sink.new) result (checked_line (Checked.Rejected line)) }
+    ensures cause { HasCause (S.faults sink.old) (S.faults sink.new) result }
+    ensures name { S.name sink.new ≡ S.name sink.old }
+{
+    write_all(sink, b"rejected ")?;
+    write_number(sink, line)?;
+    write_all(sink, b"\n")
+}
+
+fn write_checked<S: Sink>(sink: &mut S, checked: Checked) -> Result<(), Failed>
+    ensures bytes { WritesAll (S.written sink.old) (S.written sink.new) result (checked_line checked) }
+    ensures cause { HasCause (S.faults sink.old) (S.faults sink.new) result }
+    ensures name { S.name sink.new ≡ S.name sink.old }
+{
+    match checked {
+        Checked::Accepted => write_all(sink, b"accepted\n"),
+        Checked::Rejected { line } => write_rejected(sink, line),
+    }
+}
+
 fn write_reply<S: Sink>(sink: &mut S, reply: &Reply) -> Result<(), Failed>
     ensures bytes { WritesAll (S.written sink.old) (S.written sink.new) result (reply_text reply.now) }
     ensures cause { HasCause (S.faults sink.old) (S.faults sink.new) result }
@@ -104,6 +127,7 @@ fn write_reply<S: Sink>(sink: &mut S, reply: &Reply) -> Result<(), Failed>
         Reply::Refused(refusal) => write_refused(sink, refusal),
         Reply::Conclusions(family, conclusions) => write_conclusions(sink, *family, conclusions),
         Reply::Text(theory) => write_theory(sink, theory),
+        Reply::Checked(checked) => write_checked(sink, *checked),
     }
 }
 

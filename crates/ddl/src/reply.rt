@@ -3,6 +3,7 @@
 ghost use Rattle.std.specs.Prelude.{◌≡◌};
 ghost use Rattle.ddl.specs.Replies.{reply_status};
 
+use crate::check::Checked;
 use crate::conclusion::Conclusion;
 use crate::refusal::Refusal;
 use crate::status::Status;
@@ -20,6 +21,8 @@ pub enum Reply {
     Conclusions(Family, Vec<Conclusion>),
     /// The canonical text of a theory.
     Text(Theory),
+    /// What is said of a certificate.
+    Checked(Checked),
 }
 
 /// How the program ends where it said this.
@@ -31,5 +34,7 @@ pub fn status_of(reply: &Reply) -> Status
         Reply::Refused(_) => Status::Refused,
         Reply::Conclusions(_, _) => Status::Done,
         Reply::Text(_) => Status::Done,
+        Reply::Checked(Checked::Accepted) => Status::Done,
+        Reply::Checked(Checked::Rejected { .. }) => Status::Rejected,
     }
 }

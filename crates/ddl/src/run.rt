@@ -1,18 +1,21 @@
 //! The top call: from the words of the command line to standard output and a status.
 
-ghost use Rattle.std.specs.Prelude.{◌≡◌, List, ℕ, Option, false, map, string_bytes, IsTrue, IfOk, Some};
+ghost use Rattle.std.specs.Prelude.{◌≡◌, ◌⊎◌, ◌∷◌, [], List, ℕ, Option, false, map, string_bytes, IsTrue, IfOk, Some};
 ghost use Rattle.dl_io.specs.House.{IsShut, IsOpenedOut, settled_out, standard};
 ghost use Rattle.ddl.specs.Replies.{reply_status};
-ghost use Rattle.ddl.specs.Run.{Runs, Answers, ReadsOnly, IsReply, MayEnd, Shows, outcome_of, files_of};
-ghost use Rattle.ddl.specs.Theories.{IsTheoryFile, HoldsLoaded};
-ghost use Rattle.ddl.specs.Whole.{HasFault};
-ghost use Rattle.ddl.specs.Words.{form, form_of, file_of};
+ghost use Rattle.ddl.specs.Run.{Runs, Answers, ReadsOnly, IsReply, MayEnd, Shows, outcome_of, files_for, files_of};
+ghost use Rattle.ddl.specs.Certified.{SaysOfCertificate};
+ghost use Rattle.ddl.specs.Theories.{limit, HoldsLoaded};
+ghost use Rattle.ddl.specs.Whole.{IsWhole, HasFault};
+ghost use Rattle.ddl.specs.Words.{form, form_of, Conclude, Print, Check};
 
+use crate::check::check;
 use crate::conclusion::conclusions;
 use crate::print::print;
+use crate::refusal::Refusal;
 use crate::reply::{Reply, status_of};
 use crate::status::Status;
-use crate::theory_file::{Loaded, load};
+use crate::theory_file::{Loaded, load, read};
 use crate::whole::Stop;
 use crate::words::{Command, command_of};
 use dl_io::{Failed, House, OpenStop};
@@ -22,33 +25,112 @@ use std::alloc::Global;
 use std::sync::Wait;
 use std::thread::Threads;
 
-// What a command says of a theory.
-fn answer(alloc: Global, command: Command<'_>, theory: Theory) -> Result<Reply, Memory>
-    ensures shown { (holds : List ℕ → Option (List ℕ)) (bytes : List ℕ) → holds (file_of (form_of command.entry)) ≡ Some bytes
-        → IsTheoryFile bytes theory → IfOk result (λ reply. Shows holds (Some (form_of command.entry)) (outcome_of reply)) }
-    ensures done { IfOk result (λ reply. reply_status reply ≡ Status.Done) }
-{
-    match command {
-        Command::Conclude(_) => {
-            let list = conclusions(alloc, &theory)?;
-            Ok(Reply::Conclusions(Family::Definite, list))
-        }
-        Command::Print(_) => Ok(Reply::Text(theory)),
-    }
-}
-
-// What a command says of what its file gives.
-fn reply_of(alloc: Global, command: Command<'_>, loaded: Loaded) -> Result<Reply, Memory>
-    ensures shown { (holds : List ℕ → Option (List ℕ)) → HoldsLoaded (holds (file_of (form_of command.entry))) loaded
-        → IfOk result (λ reply. Shows holds (Some (form_of command.entry)) (outcome_of reply)) }
-    ensures ends { IfOk result (λ reply. MayEnd (Some (form_of command.entry)) (reply_status reply)) }
+// The conclusions of what a file gives.
+fn conclude(alloc: Global, loaded: Loaded) -> Result<Reply, Memory>
+    ensures shown { (holds : List ℕ → Option (List ℕ)) (file : List ℕ) → HoldsLoaded (holds file) loaded
+        → IfOk result (λ reply. Shows holds (Some (Conclude Family.Definite file)) (outcome_of reply)) }
+    ensures ends { IfOk result (λ reply. (reply_status reply ≡ Status.Done) ⊎ (reply_status reply ≡ Status.Refused)) }
 {
     match loaded {
         Loaded::Theory(theory) => {
-            let reply = answer(alloc, command, theory)?;
-            Ok(reply)
+            let list = conclusions(alloc, &theory)?;
+            Ok(Reply::Conclusions(Family::Definite, list))
         }
         Loaded::Refused(refusal) => Ok(Reply::Refused(refusal)),
+    }
+}
+
+// The canonical text of what a file gives.
+fn print_of(loaded: Loaded) -> Reply
+    ensures shown { (holds : List ℕ → Option (List ℕ)) (file : List ℕ) → HoldsLoaded (holds file) loaded
+        → Shows holds (Some (Print file)) (outcome_of result) }
+    ensures ends { (reply_status result ≡ Status.Done) ⊎ (reply_status result ≡ Status.Refused) }
+{
+    match loaded {
+        Loaded::Theory(theory) => Reply::Text(theory),
+        Loaded::Refused(refusal) => Reply::Refused(refusal),
+    }
+}
+
+// What is said of a certificate that was read. `None` are more bytes than the limit.
+fn check_whole(alloc: Global, theory: &Theory, whole: &Option<Vec<u8>>) -> Result<Reply, Memory>
+    ensures said { (bytes : List ℕ) → IsWhole limit (Some bytes) whole.now → IfOk result (SaysOfCertificate theory.now bytes) }
+    ensures ends { IfOk result (λ reply. MayEnd (Some (Check [] [])) (reply_status reply)) }
+{
+    match whole {
+        None => Ok(Reply::Refused(Refusal::Size)),
+        Some(bytes) => {
+            let checked = check(alloc, theory, bytes)?;
+            Ok(Reply::Checked(checked))
+        }
+    }
+}
+
+// What is said of the certificate in a file. The file is settled again.
+fn check_file<H: House>(
+    alloc: Global,
+    house: &mut H,
+    theory: &Theory,
+    cert: &String,
+) -> Result<Reply, Stop>
+    requires { (H.state house.old).open_in (string_bytes cert.now) ≡ false }
+    ensures house { ReadsOnly (H.state house.old) (H.state house.new) (string_bytes cert.now ∷ []) }
+    ensures cause { HasFault (H.state house.old).faults (H.state house.new).faults result }
+    ensures ends { IfOk result (λ reply. MayEnd (Some (Check [] [])) (reply_status reply)) }
+    ensures said { IsTrue H.tells → IfOk result (λ reply. (bytes : List ℕ)
+        × ((H.state house.old).holds (string_bytes cert.now) ≡ Some bytes) × SaysOfCertificate theory.now bytes reply) }
+{
+    let whole = read(alloc, house, cert)?;
+    let reply = check_whole(alloc, theory, &whole)?;
+    Ok(reply)
+}
+
+// Whether the second file is a certificate of the theory in the first, which is loaded before the second is read.
+fn check_files<H: House>(
+    alloc: Global,
+    house: &mut H,
+    file: &String,
+    cert: &String,
+) -> Result<Reply, Stop>
+    requires { (name : List ℕ) → (H.state house.old).open_in name ≡ false }
+    ensures house { ReadsOnly (H.state house.old) (H.state house.new) (string_bytes file.now ∷ string_bytes cert.now ∷ []) }
+    ensures cause { HasFault (H.state house.old).faults (H.state house.new).faults result }
+    ensures ends { IfOk result (λ reply. MayEnd (Some (Check [] [])) (reply_status reply)) }
+    ensures shown { IsTrue H.tells → IfOk result (λ reply.
+        Shows (H.state house.old).holds (Some (Check (string_bytes file.now) (string_bytes cert.now))) (outcome_of reply)) }
+{
+    match load(alloc, house, file)? {
+        Loaded::Refused(refusal) => Ok(Reply::Refused(refusal)),
+        Loaded::Theory(theory) => {
+            let reply = check_file(alloc, house, &theory, cert)?;
+            Ok(reply)
+        }
+    }
+}
+
+// The reply to a command. Files are read and settled; nothing is written.
+fn reply_of<H: House>(alloc: Global, command: Command<'_>, house: &mut H) -> Result<Reply, Stop>
+    requires { (name : List ℕ) → (H.state house.old).open_in name ≡ false }
+    ensures house { ReadsOnly (H.state house.old) (H.state house.new) (files_for (Some (form_of command.entry))) }
+    ensures cause { HasFault (H.state house.old).faults (H.state house.new).faults result }
+    ensures ends { IfOk result (λ reply. MayEnd (Some (form_of command.entry)) (reply_status reply)) }
+    ensures shown { IsTrue H.tells → IfOk result (λ reply.
+        Shows (H.state house.old).holds (Some (form_of command.entry)) (outcome_of reply)) }
+{
+    match command {
+        Command::Conclude(file) => {
+            let loaded = load(alloc, house, file)?;
+            let reply = conclude(alloc, loaded)?;
+            Ok(reply)
+        }
+        Command::Print(file) => {
+            let loaded = load(alloc, house, file)?;
+            Ok(print_of(loaded))
+        }
+        Command::Check(file, cert) => {
+            let reply = check_files(alloc, house, file, cert)?;
+            Ok(reply)
+        }
     }
 }
 
@@ -62,8 +144,7 @@ fn reply_to<H: House>(alloc: Global, words: &Vec<String>, house: &mut H) -> Resu
 {
     match command_of(words) {
         Some(command) => {
-            let loaded = load(alloc, house, command.file())?;
-            let reply = reply_of(alloc, command, loaded)?;
+            let reply = reply_of(alloc, command, house)?;
             Ok(reply)
         }
         None => Ok(Reply::Usage),

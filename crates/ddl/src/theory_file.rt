@@ -1,6 +1,6 @@
 //! A theory from a file.
 
-ghost use Rattle.std.specs.Prelude.{◌≡◌, ◌≤◌, ◌∷◌, [], List, ℕ, false, length, string_bytes, IsTrue, IsSome, IfOk, Some};
+ghost use Rattle.std.specs.Prelude.{◌≡◌, ◌≤◌, ◌∷◌, ◌++◌, [], List, ℕ, false, length, OnOk, string_bytes, IsTrue, IsSome, IfOk, Some};
 ghost use Rattle.ddl.specs.Theories.{limit, IsLoaded, HoldsLoaded};
 ghost use Rattle.ddl.specs.Run.{ReadsOnly};
 ghost use Rattle.ddl.specs.Whole.{IsWhole, HasFault};
@@ -45,13 +45,14 @@ fn load_whole(alloc: Global, whole: &Option<Vec<u8>>) -> Result<Loaded, Memory>
     }
 }
 
-// The bytes of a file, or `None` where they are more than the limit. The file is settled again.
-fn read<H: House>(alloc: Global, house: &mut H, name: &String) -> Result<Option<Vec<u8>>, Stop>
+/// The bytes of a file, or `None` where they are more than the limit. The file is settled again.
+pub fn read<H: House>(alloc: Global, house: &mut H, name: &String) -> Result<Option<Vec<u8>>, Stop>
     requires { (H.state house.old).open_in (string_bytes name.now) ≡ false }
     ensures house { ReadsOnly (H.state house.old) (H.state house.new) (string_bytes name.now ∷ []) }
     ensures cause { HasFault (H.state house.old).faults (H.state house.new).faults result }
     ensures whole { IfOk result (λ whole. IsWhole limit ((H.state house.old).holds (string_bytes name.now)) whole) }
     ensures told { IsTrue H.tells → IfOk result (λ whole. IsSome ((H.state house.old).holds (string_bytes name.now))) }
+    ensures asked { OnOk result ((H.state house.new).asked_in ≡ (H.state house.old).asked_in ++ string_bytes name.now ∷ []) }
 {
     let mut source = match house.input(name) {
         Ok(source) => source,
@@ -69,6 +70,7 @@ pub fn load<H: House>(alloc: Global, house: &mut H, name: &String) -> Result<Loa
     ensures house { ReadsOnly (H.state house.old) (H.state house.new) (string_bytes name.now ∷ []) }
     ensures cause { HasFault (H.state house.old).faults (H.state house.new).faults result }
     ensures loaded { IsTrue H.tells → IfOk result (HoldsLoaded ((H.state house.old).holds (string_bytes name.now))) }
+    ensures asked { OnOk result ((H.state house.new).asked_in ≡ (H.state house.old).asked_in ++ string_bytes name.now ∷ []) }
 {
     let whole = read(alloc, house, name)?;
     let loaded = load_whole(alloc, &whole)?;

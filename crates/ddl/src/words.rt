@@ -2,7 +2,7 @@
 
 ghost use Rattle.std.specs.Prelude.{◌≡◌, map, string_bytes};
 ghost use Rattle.std.specs.Option.{option_map};
-ghost use Rattle.ddl.specs.Words.{form, form_of, conclude_form, file_of};
+ghost use Rattle.ddl.specs.Words.{form, form_of, form_of_three, conclude_form, check_form};
 
 /// What the words ask for.
 #[derive(Clone, Copy)]
@@ -11,18 +11,8 @@ pub enum Command<'a> {
     Conclude(&'a String),
     /// The canonical text of the theory in a file.
     Print(&'a String),
-}
-
-impl<'a> Command<'a> {
-    /// The file that holds the theory.
-    pub fn file(self) -> &'a String
-        ensures { string_bytes result.now ≡ file_of (form_of self.entry) }
-    {
-        match self {
-            Command::Conclude(file) => file,
-            Command::Print(file) => file,
-        }
-    }
+    /// Whether the second file is a certificate of the theory in the first.
+    Check(&'a String, &'a String),
 }
 
 fn conclude<'a>(family: &str, file: &'a String) -> Option<Command<'a>>
@@ -30,6 +20,28 @@ fn conclude<'a>(family: &str, file: &'a String) -> Option<Command<'a>>
 {
     if family == "D" && !file.is_empty() {
         Some(Command::Conclude(file))
+    } else {
+        None
+    }
+}
+
+fn check<'a>(theory: &'a String, cert: &'a String) -> Option<Command<'a>>
+    ensures { option_map form_of result ≡ check_form (string_bytes theory.now) (string_bytes cert.now) }
+{
+    if theory.is_empty() || cert.is_empty() {
+        None
+    } else {
+        Some(Command::Check(theory, cert))
+    }
+}
+
+fn command_of_three<'a>(command: &str, second: &'a String, third: &'a String) -> Option<Command<'a>>
+    ensures { option_map form_of result ≡ form_of_three command.now (string_bytes second.now) (string_bytes third.now) }
+{
+    if command == "conclude" {
+        conclude(second.as_str(), third)
+    } else if command == "check" {
+        check(second, third)
     } else {
         None
     }
@@ -43,9 +55,7 @@ pub fn command_of(words: &Vec<String>) -> Option<Command<'_>>
         [command, file] if command.as_str() == "print" && !file.is_empty() => {
             Some(Command::Print(file))
         }
-        [command, family, file] if command.as_str() == "conclude" => {
-            conclude(family.as_str(), file)
-        }
+        [command, second, third] => command_of_three(command.as_str(), second, third),
         _ => None,
     }
 }

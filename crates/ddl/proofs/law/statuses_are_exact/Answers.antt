@@ -4,8 +4,8 @@ use Rattle.ddl.proofs.Exact.{ends_so, loads_done, refused_refused}
 use Rattle.ddl.proofs.law.statuses_are_exact.Goals as goal
 
 pub returns-clause-loads : goal.returns-clause-loads
-returns-clause-loads c = λ old new words ends asked bytes T answers is_form held loads calm.
-    ends_so old new words ends Done calm (λ outcome shows. loads_done old.holds asked bytes held T loads (form words) outcome is_form shows) answers
+returns-clause-loads c = λ old new words ends asked bytes T answers is_form alone held loads calm.
+    ends_so old new words ends Done calm (λ outcome shows. loads_done old.holds asked bytes held alone T loads (form words) outcome is_form shows) answers
 
 pub returns-clause-refuses : goal.returns-clause-refuses
 returns-clause-refuses c = λ old new words ends asked bytes x answers is_form held is_refusal calm.
