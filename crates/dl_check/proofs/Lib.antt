@@ -6,3 +6,5 @@ pub mod Families
 pub mod Standing
 pub mod Walking
 pub mod Answered
+pub mod CertificateLines
+pub mod FirstFlaws

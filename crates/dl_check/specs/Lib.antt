@@ -5,3 +5,5 @@ pub mod Bands
 pub mod Supports
 pub mod Checking
 pub mod Flaws
+pub mod Headings
+pub mod Certificates

@@ -23,6 +23,11 @@ impl Checker {
 
         // Each member of what is accepted follows.
         ensures follow { OnOk result ((T : TheoryLists) → StandsFor self.now T → All (Follows T) list.now) }
+
+        // No derivation with a member is rejected, and no flaw but the first is named.
+        ensures accepts { (T : TheoryLists) → StandsFor self.now T → IsDerivation T list.now → list.now ≢ []
+            → MatchResult result (λ _. Unit {0}) (λ stop. stop ≡ CheckStop.Memory) }
+        ensures rejects { (T : TheoryLists) (flaw : Flaw) → StandsFor self.now T → IsDerivationFlaw T list.now flaw → IsOnlyFlaw flaw result }
     {
         self.walk_derivation(list.as_slice())
     }
@@ -58,6 +63,11 @@ impl Checker {
 
         // No member of what is accepted follows.
         ensures unproved { OnOk result ((T : TheoryLists) → StandsFor self.now T → All (λ x. ¬ Follows T x) list.now) }
+
+        // No gap is rejected, and no flaw but the first is named.
+        ensures accepts { (T : TheoryLists) → StandsFor self.now T → IsGap T list.now
+            → MatchResult result (λ _. Unit {0}) (λ stop. stop ≡ CheckStop.Memory) }
+        ensures rejects { (T : TheoryLists) (flaw : Flaw) → StandsFor self.now T → IsGapFlaw T list.now flaw → IsOnlyFlaw flaw result }
     {
         self.walk_gap(list.as_slice())
     }
@@ -68,7 +78,7 @@ impl Checker {
         if list.is_empty() {
             return Err(CheckStop::Rejected(Flaw::Empty));
         }
-        let derived = Derived {
+        let outside = Derived {
             members: Members::collect(self.alloc, list)?,
             reading: Reading::Outside,
         };
@@ -77,7 +87,7 @@ impl Checker {
             if seen.holds(member) {
                 return Err(CheckStop::Rejected(Flaw::Repeat { at }));
             }
-            let is_met = self.meets(&derived, member)?;
+            let is_met = self.meets(&outside, member)?;
             if is_met {
                 return Err(CheckStop::Rejected(Flaw::Step { at }));
             }
