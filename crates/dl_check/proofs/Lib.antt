@@ -1,0 +1,10 @@
+pub mod Grouped
+pub mod Tests
+pub mod Shapes
+pub mod Rows
+pub mod Families
+pub mod Standing
+pub mod Walking
+pub mod Answered
+pub mod CertificateLines
+pub mod FirstFlaws

@@ -1,0 +1,9 @@
+pub mod Groups
+pub mod Tags
+pub mod Derived
+pub mod Bands
+pub mod Supports
+pub mod Checking
+pub mod Flaws
+pub mod Headings
+pub mod Certificates
