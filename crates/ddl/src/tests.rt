@@ -188,3 +188,91 @@ fn a_fault_is_a_fault(rt: HostRuntime) -> Result<(), Fail> {
     assert_eq!(rt; text.as_slice(), b">> ".as_slice());
     Ok(())
 }
+
+// How the program ends on `check t c`, and what stands on standard output then, where the files have these bytes.
+fn checked<R: Threads + Wait + Sync>(
+    rt: &R,
+    alloc: Global,
+    theory: &[u8],
+    cert: &[u8],
+) -> Result<(Status, Vec<u8>), Fail> {
+    let dash = String::from_str(alloc, "-")?;
+    let mut house = MemoryHouse::make(alloc);
+    let name = String::from_str(alloc, "t")?;
+    house.put(
+        name,
+        theory.to_vec(alloc)?,
+        Vec::new(alloc),
+        Vec::new(alloc),
+    )?;
+    let name = String::from_str(alloc, "c")?;
+    house.put(name, cert.to_vec(alloc)?, Vec::new(alloc), Vec::new(alloc))?;
+    let words = words_of(alloc, &["check", "t", "c"])?;
+    let status = run(rt, alloc, &words, &mut house);
+    let text = house
+        .wrote(&dash)
+        .ok_or("nothing was settled")?
+        .to_vec(alloc)?;
+    Ok((status, text))
+}
+
+const PENGUIN: &[u8] =
+    b">> penguin\nr1: penguin -> bird\nr2: bird => flies\nr3: penguin => -flies\nr3 > r2\n";
+
+const LOOP: &[u8] = b"r: p => p\n";
+
+#[test]
+fn certificates_are_checked(rt: HostRuntime) -> Result<(), Fail> {
+    let rows: [(&[u8], &[u8], Status, &[u8]); 9] = [
+        (
+            PENGUIN,
+            b"derivation\n+D penguin\n+d penguin\n-D flies\n+d -flies\n",
+            Status::Done,
+            b"accepted\n",
+        ),
+        (
+            PENGUIN,
+            b"derivation\n+d penguin\n+D penguin\n-D flies\n+d -flies\n",
+            Status::Rejected,
+            b"rejected 2\n",
+        ),
+        (
+            PENGUIN,
+            b"derivation\n+D penguin\n+d penguin\n-D flies\n",
+            Status::Done,
+            b"accepted\n",
+        ),
+        (
+            PENGUIN,
+            b"derivation\n+D penguin\n+D penguin\n-D flies\n+d -flies\n",
+            Status::Rejected,
+            b"rejected 3\n",
+        ),
+        (PENGUIN, b"derivation\n", Status::Rejected, b"rejected 2\n"),
+        (PENGUIN, b"", Status::Rejected, b"rejected 1\n"),
+        (
+            LOOP,
+            b"gap\n+D p\n+d p\n-d p\n+D -p\n+d -p\n",
+            Status::Done,
+            b"accepted\n",
+        ),
+        (
+            LOOP,
+            b"gap\n+D p\n+d p\n-d p\n+d -p\n",
+            Status::Rejected,
+            b"rejected 4\n",
+        ),
+        (
+            b">> 1\n",
+            b"gap\n",
+            Status::Refused,
+            b"refused line 1 form\n",
+        ),
+    ];
+    for (theory, cert, status, text) in rows.iter() {
+        let (ended, said) = checked(&rt, rt.alloc(), theory, cert)?;
+        assert_eq!(rt; said.as_slice(), *text);
+        assert_eq!(rt; ended, *status);
+    }
+    Ok(())
+}
