@@ -1,6 +1,6 @@
 -- How the conditions put their tests together, and how the checker does.
 use Rattle.std.proofs.Common.{◌≡◌, Bool, true, false, not, ◌&&◌, ◌||◌, refl, sym}
-use Rattle.dl_check.proofs.Tests.{and_false}
+use Rattle.dl_check.proofs.Quantified.{and_false}
 
 -- h: the head fits; s: the kind fits; o: on, or off; b: beaten by it
 pub not_off_shape : (h s o : Bool) → not (not (h && s) || o) ≡ (h && (s && not o))

@@ -17,7 +17,7 @@ use Rattle.dl_check.specs.declared.derived.Reading.{Reading}
 use Rattle.dl_check.specs.declared.derived.Reading.TheVariants.{Inside, Outside}
 use Rattle.dl_check.specs.Tags.{is_tag, tag_of}
 use Rattle.dl_check.specs.Derived.{stands, HasMembers, by_reading, is_derived}
-use Rattle.dl_check.proofs.Tests.{any_congr, any_filter, any_map, and_turned}
+use Rattle.dl_check.proofs.Quantified.{any_congr, any_filter, any_map, and_turned}
 
 tagged_turned : (x y : Tagged) → tagged_eq y x ≡ tagged_eq x y
 tagged_turned x y = same_from_decides (tagged_eq y x) (tagged_eq x y) (tagged_eq-Decides y x) (Decides-like (tagged_eq x y) sym sym (tagged_eq-Decides x y))

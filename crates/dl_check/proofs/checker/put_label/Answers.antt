@@ -3,7 +3,7 @@ use Rattle.std.specs.Set.{is_member}
 use Rattle.std.specs.Str.{bytes_eq}
 use Rattle.dl_check.specs.Derived.{is_derived}
 use Rattle.dl_check.specs.Bands.{is_in}
-use Rattle.dl_check.proofs.Tests.{put_in, left_out}
+use Rattle.dl_check.proofs.Quantified.{put_in, left_out}
 use Rattle.dl_check.proofs.checker.put_label.Goals as goal
 
 pub returns-then-not-is_in : goal.returns-then-not-is_in

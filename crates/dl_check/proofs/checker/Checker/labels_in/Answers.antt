@@ -6,7 +6,7 @@ use Rattle.dl_theory.specs.declared.rule.Rule.{Rule}
 use Rattle.dl_check.specs.Derived.{is_derived}
 use Rattle.dl_check.specs.Bands.{is_in}
 use Rattle.dl_check.specs.Checking.{row}
-use Rattle.dl_check.proofs.Tests.{any_more}
+use Rattle.dl_check.proofs.Quantified.{any_more}
 use Rattle.dl_check.proofs.checker.Checker.labels_in.Goals as goal
 
 pub loop-rule-preserved : goal.loop-rule-preserved
