@@ -1,5 +1,5 @@
 pub mod Grouped
-pub mod Tests
+pub mod Quantified
 pub mod Shapes
 pub mod Rows
 pub mod Families
