@@ -1,15 +1,15 @@
 -- Pairs of labels by pairs of numbers: what holds of the ones holds of the others.
-use Rattle.std.proofs.Common.{◌≡◌, ◌≢◌, ℕ, ◌<◌, ◌≤◌, ◌==◌, ◌⊎◌, Bool, true, cond, not, ◌&&◌, ◌||◌, List, [], ◌∷◌, ◌++◌, Option, None, Result, Ok, Err, get_or, length, map, take, filter, inl, inr, refl, sym, ap, subst, ◌∙◌, arith}
+use Rattle.std.proofs.Common.{◌≡◌, ℕ, ◌<◌, ◌≤◌, ◌==◌, Bool, true, cond, not, ◌&&◌, ◌||◌, List, [], ◌∷◌, ◌++◌, Result, Ok, Err, get_or, length, map, take, filter, inl, inr, refl, sym, ap, subst, ◌∙◌, arith}
 use Rattle.std.specs.Prelude.{All, Contains, OnOk, OnErr}
 use Rattle.std.specs.List.{position_or_len}
 use Rattle.std.specs.Bool.{Decides}
 use Rattle.std.specs.Str.{bytes_eq}
-use Rattle.std.proofs.lemmas.Bool.{cases_eq, cases_lt}
+use Rattle.std.proofs.lemmas.Bool.{cases_lt}
 use Rattle.std.proofs.lemmas.Bool.Decides.{same_from_decides, Decides-and, Decides-like, Decides-eqb}
 use Rattle.std.proofs.lemmas.Slice.Eq.{bytes_eq-Decides}
 use Rattle.std.proofs.lemmas.List.{get_or_append_left, take-map, map-append, length-append, append-nil}
 use Rattle.std.proofs.lemmas.List.Sums.{position_or_len_is}
-use Rattle.std.proofs.lemmas.List.Elements.{All-push, All-take, All-weaker, All-filter, All-contains, All-map, All-contains_itself, Contains-get_or, Contains-push, filter-append}
+use Rattle.std.proofs.lemmas.List.Elements.{All-push, All-take, All-weaker, All-filter, All-contains, All-contains_itself, Contains-get_or, filter-append}
 use Rattle.dl_base.specs.Paths.{IsDistinct, IsPath}
 use Rattle.dl_base.proofs.Members.{all_more, Contains-mapped, mapped_from, map_agree}
 use Rattle.dl_base.proofs.Filters.{filter_all, filter_mapped, false_unless}
@@ -99,6 +99,27 @@ module _ (items : List (List ℕ)) (links : List Link) (pairs : List Pair) (h : 
       let lower : place items y ≡ l.lower = place_is items h.distinct l.lower y within.1 (ap (λ p. p.lower) from.2) in (
         subst (λ (z : Link). Contains links z) (λ i. record { upper = sym upper i; lower = sym lower i }) from.1,
         ap (label_at items) lower ∙ ap (λ p. p.lower) from.2,
+      )
+
+  -- labels stand in a pair where their numbers do
+  pub above_numbered : (x y : List ℕ) (m n : ℕ) → m < length items → n < length items → label_at items m ≡ x → label_at items n ≡ y
+      → (IsOver links m n → IsAbove pairs x y) × (IsAbove pairs x y → IsOver links m n)
+  above_numbered x y m n p q e f = (
+    λ over.
+        subst (λ (z : List ℕ). IsAbove pairs z y) e
+        (subst (λ (z : List ℕ). IsAbove pairs (label_at items m) z) f (over_above m n over).0),
+    λ above.
+        subst (λ (k : ℕ). IsOver links k n) (place_is items h.distinct m x p e)
+        (subst (λ (k : ℕ). IsOver links (place items x) k) (place_is items h.distinct n y q f) (above_over x y above).0),
+  )
+
+  pub labels_of_pair : (x y : List ℕ) → IsAbove pairs x y → Contains items x × Contains items y
+  labels_of_pair x y m =
+      let from = mapped_from (named items) links (record { upper = x; lower = y })
+      (subst (λ (ps : List Pair). Contains ps (record { upper = x; lower = y })) h.names m) in
+      let within = All-contains (IsWithin items) links from.0 h.within from.1 in (
+        subst (Contains items) (ap (λ p. p.upper) from.2) (Contains-get_or items from.0.upper [] within.0),
+        subst (Contains items) (ap (λ p. p.lower) from.2) (Contains-get_or items from.0.lower [] within.1),
       )
 
   module _ (l : Link) (p : Pair) (number : IsNumberOf items l p) where

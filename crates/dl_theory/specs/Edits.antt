@@ -1,5 +1,5 @@
 -- What an edit changes, and when it is refused.
-use Rattle.std.specs.Prelude.{◌≡◌, ◌⊎◌, ℕ, ◌≤◌, ◌<◌, Bool, not, ◌&&◌, ◌||◌, List, [], ◌∷◌, ◌++◌, length, Contains, filter, map, take, slice_get, Option, None, Some, All}
+use Rattle.std.specs.Prelude.{◌≡◌, ◌⊎◌, ℕ, ◌≤◌, ◌<◌, not, ◌||◌, List, [], ◌∷◌, ◌++◌, length, Contains, filter, map, take, slice_get, Option, None, Some, All}
 use Rattle.std.specs.Str.{bytes_eq}
 use Rattle.dl_lit.specs.Literal.{literal_eq}
 use Rattle.dl_theory.specs.declared.rule.Pair.{Pair}

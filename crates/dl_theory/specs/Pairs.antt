@@ -1,6 +1,6 @@
 -- Pairs of labels: equality, and how a list of pairs of numbers stands for them.
 use Rattle.std.specs.Hash as fed
-use Rattle.std.specs.Prelude.{◌≡◌, ◌++◌, ℕ, ◌<◌, ◌≤◌, Bool, ◌&&◌, IsTrue, List, [], length, slice_index_or, All, map}
+use Rattle.std.specs.Prelude.{◌≡◌, ◌++◌, ℕ, ◌<◌, Bool, ◌&&◌, IsTrue, List, [], length, slice_index_or, All, map}
 use Rattle.std.specs.Bool.{Decides}
 use Rattle.std.specs.Str.{bytes_eq}
 use Rattle.std.specs.Cmp.{IsEquivalence, and_equiv, on_equiv, nat_eq_equiv}

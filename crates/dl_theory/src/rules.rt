@@ -78,6 +78,15 @@ impl Rules {
         holds_label(&self.labels, label)
     }
 
+    /// The place of the rule with a label.
+    pub fn place(&self, label: &Name) -> Option<usize>
+        ensures within { IfSome result (λ at. at < length self.now) }
+        ensures there { IfSome result (λ at. slice_index_or (map (λ r. r.label) self.now) at [] ≡ label.now) }
+        ensures absent { IfNone result (¬ Contains (map (λ r. r.label) self.now) label.now) }
+    {
+        place_of(&self.labels, label)
+    }
+
     pub fn len(&self) -> usize
         ensures { result ≡ length self.now }
     {

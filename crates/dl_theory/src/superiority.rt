@@ -216,6 +216,19 @@ impl Superiority {
         holds_pair(&self.pairs, pair)
     }
 
+    /// Whether the pair of two labels is in the list.
+    pub fn is_above(&self, upper: &Name, lower: &Name) -> bool
+        ensures { IsTrue result ↔ IsAbove self.now upper.now lower.now }
+    {
+        match place_of(&self.items, upper) {
+            None => false,
+            Some(above) => match place_of(&self.items, lower) {
+                None => false,
+                Some(below) => self.order.above(above, below),
+            },
+        }
+    }
+
     pub fn len(&self) -> usize
         ensures { result ≡ length self.now }
     {

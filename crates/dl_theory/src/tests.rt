@@ -36,34 +36,69 @@ fn rule(rt: &impl Abort, alloc: Global, label: &str) -> Rule {
     }
 }
 
-fn add_pair(rt: &impl Abort, alloc: Global, upper: &str, lower: &str) -> Edit {
-    Edit::AddPair(pair(rt, alloc, upper, lower))
+/// A kind of edit.
+#[derive(Clone, Copy)]
+enum Act {
+    AddRule,
+    DropRule,
+    AddFact,
+    DropFact,
+    AddPair,
+    DropPair,
+}
+
+/// An edit of the rule, the fact or the pair with these names, and its answer.
+#[derive(Clone, Copy)]
+struct Row {
+    act: Act,
+    first: &'static str,
+    second: &'static str,
+    answer: &'static str,
+}
+
+fn one(act: Act, name: &'static str, answer: &'static str) -> Row {
+    Row {
+        act,
+        first: name,
+        second: "",
+        answer,
+    }
+}
+
+fn two(act: Act, upper: &'static str, lower: &'static str, answer: &'static str) -> Row {
+    Row {
+        act,
+        first: upper,
+        second: lower,
+        answer,
+    }
+}
+
+fn edit_of(rt: &impl Abort, alloc: Global, row: &Row) -> Edit {
+    match row.act {
+        Act::AddRule => Edit::AddRule(rule(rt, alloc, row.first)),
+        Act::DropRule => Edit::DropRule(name(rt, alloc, row.first)),
+        Act::AddFact => Edit::AddFact(literal(rt, alloc, row.first)),
+        Act::DropFact => Edit::DropFact(literal(rt, alloc, row.first)),
+        Act::AddPair => Edit::AddPair(pair(rt, alloc, row.first, row.second)),
+        Act::DropPair => Edit::DropPair(pair(rt, alloc, row.first, row.second)),
+    }
+}
+
+/// Makes the edits in order, and compares each answer.
+fn expect_all(rt: &impl Abort, alloc: Global, theory: &mut Theory, rows: &[Row]) {
+    for row in rows {
+        expect(rt, alloc, theory, edit_of(rt, alloc, row), row.answer);
+    }
 }
 
 /// A theory with the rules r1, r2 and r3.
 fn three_rules(rt: &impl Abort, alloc: Global) -> Theory {
     let mut theory = Theory::make(alloc);
-    expect(
-        rt,
-        alloc,
-        &mut theory,
-        Edit::AddRule(rule(rt, alloc, "r1")),
-        "ok",
-    );
-    expect(
-        rt,
-        alloc,
-        &mut theory,
-        Edit::AddRule(rule(rt, alloc, "r2")),
-        "ok",
-    );
-    expect(
-        rt,
-        alloc,
-        &mut theory,
-        Edit::AddRule(rule(rt, alloc, "r3")),
-        "ok",
-    );
+    for label in ["r1", "r2", "r3"] {
+        let edit = Edit::AddRule(rule(rt, alloc, label));
+        expect(rt, alloc, &mut theory, edit, "ok");
+    }
     theory
 }
 
@@ -125,76 +160,19 @@ fn expect(rt: &impl Abort, alloc: Global, theory: &mut Theory, edit: Edit, want:
 fn pairs_are_added_and_dropped_by_the_rows(rt: HostRuntime) {
     let alloc = rt.alloc();
     let mut theory = three_rules(&rt, alloc);
-    expect(
-        &rt,
-        alloc,
-        &mut theory,
-        add_pair(&rt, alloc, "r1", "r2"),
-        "ok",
-    );
-    expect(
-        &rt,
-        alloc,
-        &mut theory,
-        add_pair(&rt, alloc, "r2", "r3"),
-        "ok",
-    );
-    expect(
-        &rt,
-        alloc,
-        &mut theory,
-        add_pair(&rt, alloc, "r3", "r1"),
-        "cycle r1 r2 r3",
-    );
-    expect(
-        &rt,
-        alloc,
-        &mut theory,
-        Edit::DropRule(name(&rt, alloc, "r2")),
-        "ok",
-    );
-    expect(
-        &rt,
-        alloc,
-        &mut theory,
-        Edit::DropPair(pair(&rt, alloc, "r1", "r2")),
-        "no pair",
-    );
-    expect(
-        &rt,
-        alloc,
-        &mut theory,
-        add_pair(&rt, alloc, "r3", "r1"),
-        "ok",
-    );
-    expect(
-        &rt,
-        alloc,
-        &mut theory,
-        add_pair(&rt, alloc, "zz", "yy"),
-        "no label zz",
-    );
-    expect(
-        &rt,
-        alloc,
-        &mut theory,
-        add_pair(&rt, alloc, "r3", "r1"),
-        "pair there",
-    );
-    expect(
-        &rt,
-        alloc,
-        &mut theory,
-        add_pair(&rt, alloc, "r1", "r1"),
-        "cycle r1",
-    );
-    expect(
-        &rt,
-        alloc,
-        &mut theory,
-        Edit::DropPair(pair(&rt, alloc, "r3", "r1")),
-        "ok",
-    );
+    let rows = [
+        two(Act::AddPair, "r1", "r2", "ok"),
+        two(Act::AddPair, "r2", "r3", "ok"),
+        two(Act::AddPair, "r3", "r1", "cycle r1 r2 r3"),
+        one(Act::DropRule, "r2", "ok"),
+        two(Act::DropPair, "r1", "r2", "no pair"),
+        two(Act::AddPair, "r3", "r1", "ok"),
+        two(Act::AddPair, "zz", "yy", "no label zz"),
+        two(Act::AddPair, "r3", "r1", "pair there"),
+        two(Act::AddPair, "r1", "r1", "cycle r1"),
+        two(Act::DropPair, "r3", "r1", "ok"),
+    ];
+    expect_all(&rt, alloc, &mut theory, &rows);
     assert!(rt; theory.pairs_len() == 0 && theory.rules_len() == 2);
 }
 
@@ -202,48 +180,15 @@ fn pairs_are_added_and_dropped_by_the_rows(rt: HostRuntime) {
 fn facts_and_rules_are_added_once(rt: HostRuntime) {
     let alloc = rt.alloc();
     let mut theory = three_rules(&rt, alloc);
-    expect(
-        &rt,
-        alloc,
-        &mut theory,
-        Edit::AddRule(rule(&rt, alloc, "r2")),
-        "label there",
-    );
-    expect(
-        &rt,
-        alloc,
-        &mut theory,
-        Edit::DropRule(name(&rt, alloc, "zz")),
-        "no label zz",
-    );
-    expect(
-        &rt,
-        alloc,
-        &mut theory,
-        Edit::AddFact(literal(&rt, alloc, "q")),
-        "ok",
-    );
-    expect(
-        &rt,
-        alloc,
-        &mut theory,
-        Edit::AddFact(literal(&rt, alloc, "q")),
-        "fact there",
-    );
-    expect(
-        &rt,
-        alloc,
-        &mut theory,
-        Edit::DropFact(literal(&rt, alloc, "q")),
-        "ok",
-    );
-    expect(
-        &rt,
-        alloc,
-        &mut theory,
-        Edit::DropFact(literal(&rt, alloc, "q")),
-        "no fact",
-    );
+    let rows = [
+        one(Act::AddRule, "r2", "label there"),
+        one(Act::DropRule, "zz", "no label zz"),
+        one(Act::AddFact, "q", "ok"),
+        one(Act::AddFact, "q", "fact there"),
+        one(Act::DropFact, "q", "ok"),
+        one(Act::DropFact, "q", "no fact"),
+    ];
+    expect_all(&rt, alloc, &mut theory, &rows);
     assert!(rt; theory.fact(0).is_none() && theory.rule(2).is_some());
 }
 
@@ -256,34 +201,13 @@ fn a_full_list_of_facts_refuses_one_more(rt: HostRuntime) {
         let done = theory.apply_owned(Edit::AddFact(literal(&rt, alloc, text.as_str())));
         assert!(rt; done.is_ok());
     }
-    expect(
-        &rt,
-        alloc,
-        &mut theory,
-        Edit::AddFact(literal(&rt, alloc, "q")),
-        "facts full",
-    );
-    expect(
-        &rt,
-        alloc,
-        &mut theory,
-        Edit::AddFact(literal(&rt, alloc, "p0")),
-        "fact there",
-    );
-    expect(
-        &rt,
-        alloc,
-        &mut theory,
-        Edit::DropFact(literal(&rt, alloc, "p0")),
-        "ok",
-    );
-    expect(
-        &rt,
-        alloc,
-        &mut theory,
-        Edit::AddFact(literal(&rt, alloc, "q")),
-        "ok",
-    );
+    let rows = [
+        one(Act::AddFact, "q", "facts full"),
+        one(Act::AddFact, "p0", "fact there"),
+        one(Act::DropFact, "p0", "ok"),
+        one(Act::AddFact, "q", "ok"),
+    ];
+    expect_all(&rt, alloc, &mut theory, &rows);
     assert!(rt; theory.facts_len() == 1_000_000);
 }
 
@@ -309,20 +233,11 @@ fn several_pairs_stop_at_the_first_that_is_refused(rt: HostRuntime) {
 fn a_copy_has_all_of_its_theory(rt: HostRuntime) {
     let alloc = rt.alloc();
     let mut theory = three_rules(&rt, alloc);
-    expect(
-        &rt,
-        alloc,
-        &mut theory,
-        Edit::AddFact(literal(&rt, alloc, "q")),
-        "ok",
-    );
-    expect(
-        &rt,
-        alloc,
-        &mut theory,
-        add_pair(&rt, alloc, "r1", "r2"),
-        "ok",
-    );
+    let rows = [
+        one(Act::AddFact, "q", "ok"),
+        two(Act::AddPair, "r1", "r2", "ok"),
+    ];
+    expect_all(&rt, alloc, &mut theory, &rows);
     match theory.copy() {
         Ok(copy) => {
             assert!(rt; copy.facts().len() == 1 && copy.rules().len() == 3);

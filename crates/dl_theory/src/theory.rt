@@ -1,6 +1,6 @@
 //! Theories under edits.
 
-ghost use Rattle.std.specs.Prelude.{◌≡◌, length, slice_get, OnOk, OnErr, IfOk, IfErr, MatchOption, ◌≤◌, ◌↔◌, IsTrue, Contains, ◌++◌, ◌∷◌, [], filter, not};
+ghost use Rattle.std.specs.Prelude.{◌≡◌, ◌<◌, length, slice_get, slice_index_or, OnOk, OnErr, IfOk, IfErr, IfSome, IfNone, MatchOption, ◌≤◌, ◌↔◌, IsTrue, Contains, ◌++◌, ◌∷◌, [], filter, not};
 ghost use Rattle.dl_base.specs.Paths.{IsDistinct};
 ghost use Rattle.dl_lit.specs.Literal.{literal_eq};
 ghost use Rattle.dl_theory.specs.Refusals.{refusal_of, outcome_of};
@@ -38,7 +38,7 @@ impl Model for Theory {
 }
 
 impl Theory {
-    ghost use Rattle.dl_theory.specs.Lists.{no_lists, IsWellFormed};
+    ghost use Rattle.dl_theory.specs.Lists.{labels, no_lists, IsAbove, IsWellFormed};
     ghost use Rattle.dl_theory.specs.Edits.{after_edit, after_edits, additions, AreAccepted, IsAccepted, IsStopped, IsPairsStop, HasLabel, HasBoth, IsMissing, IsFront};
 
     /// The empty theory.
@@ -124,6 +124,40 @@ impl Theory {
         self.pairs.get(at)
     }
 
+    /// The place of the rule with a label; `None` exactly where no rule has it.
+    pub fn rule_place(&self, label: &Name) -> Option<usize>
+        ensures within { IfSome result (λ at. at < length self.now.rules) }
+        ensures there { IfSome result (λ at. slice_index_or (labels self.now) at [] ≡ label.now) }
+        ensures absent { IfNone result (¬ HasLabel self.now label.now) }
+        ensures well_formed { IsWellFormed self.now }
+    {
+        self.rules.place(label)
+    }
+
+    /// Whether a literal is a fact.
+    pub fn has_fact(&self, fact: &Literal) -> bool
+        ensures value { IsTrue result ↔ Contains self.now.facts fact.now }
+        ensures well_formed { IsWellFormed self.now }
+    {
+        holds(&self.facts, fact)
+    }
+
+    /// Whether a pair is in the list.
+    pub fn has_pair(&self, pair: &Pair) -> bool
+        ensures value { IsTrue result ↔ Contains self.now.pairs pair.now }
+        ensures well_formed { IsWellFormed self.now }
+    {
+        self.pairs.has(pair)
+    }
+
+    /// Whether the pair of two labels is in the list.
+    pub fn is_above(&self, upper: &Name, lower: &Name) -> bool
+        ensures value { IsTrue result ↔ IsAbove self.now.pairs upper.now lower.now }
+        ensures well_formed { IsWellFormed self.now }
+    {
+        self.pairs.is_above(upper, lower)
+    }
+
     /// Makes an edit, or says why not.
     pub fn apply(&mut self, edit: &Edit) -> Result<(), EditStop>
         ensures accepted { OnOk result (IsAccepted self.old edit.now) }
@@ -161,6 +195,31 @@ impl Theory {
         let (end, missing) = self.labelled_front(pairs)?;
         let refused = self.pairs.add_within_limit(&pairs[..end])?;
         outcome_of(refused, missing, end)
+    }
+
+    /// Removes a fact that is there. Takes no memory.
+    pub fn remove_fact(&mut self, fact: &Literal)
+        requires { IsAccepted self.old (Edit.DropFact fact.now) }
+        ensures { self.new ≡ after_edit self.old (Edit.DropFact fact.now) }
+    {
+        remove(&mut self.facts, fact);
+    }
+
+    /// Removes the rule with a label, and the pairs that name it. Takes no memory.
+    pub fn remove_rule(&mut self, label: &Name)
+        requires { IsAccepted self.old (Edit.DropRule label.now) }
+        ensures { self.new ≡ after_edit self.old (Edit.DropRule label.now) }
+    {
+        self.rules.drop_label(label);
+        self.pairs.drop_label(label);
+    }
+
+    /// Removes a pair that is there. Takes no memory.
+    pub fn remove_pair(&mut self, pair: &Pair)
+        requires { IsAccepted self.old (Edit.DropPair pair.now) }
+        ensures { self.new ≡ after_edit self.old (Edit.DropPair pair.now) }
+    {
+        self.pairs.drop_pair(pair);
     }
 
     /// An equal theory.
@@ -227,8 +286,7 @@ impl Theory {
         if !self.rules.has(&label) {
             return Err(EditStop::Refused(EditRefusal::NoLabel(label)));
         }
-        self.rules.drop_label(&label);
-        self.pairs.drop_label(&label);
+        self.remove_rule(&label);
         Ok(())
     }
 
@@ -257,7 +315,7 @@ impl Theory {
         if !holds(&self.facts, fact) {
             return Err(EditStop::Refused(EditRefusal::NoFact));
         }
-        remove(&mut self.facts, fact);
+        self.remove_fact(fact);
         Ok(())
     }
 
@@ -305,7 +363,7 @@ impl Theory {
         if !self.pairs.has(pair) {
             return Err(EditStop::Refused(EditRefusal::NoPair));
         }
-        self.pairs.drop_pair(pair);
+        self.remove_pair(pair);
         Ok(())
     }
 }

@@ -3,7 +3,7 @@ use Rattle.dl_lit.specs.declared.literal.Literal.{Literal}
 use Rattle.dl_theory.specs.Lists.{TheoryLists, IsWellFormed}
 use Rattle.dl_theory.specs.Kept.{lists_of}
 use Rattle.dl_theory.proofs.WellFormed.{drop_fact_keeps}
-use Rattle.dl_theory.proofs.theory.Theory.drop_fact.Goals as goal
+use Rattle.dl_theory.proofs.theory.Theory.remove_fact.Goals as goal
 
 pub invariant_of-self : goal.invariant_of-self
 invariant_of-self c =

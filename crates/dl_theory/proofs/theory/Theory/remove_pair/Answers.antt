@@ -3,7 +3,7 @@ use Rattle.dl_theory.specs.declared.rule.Pair.{Pair}
 use Rattle.dl_theory.specs.Lists.{TheoryLists, IsWellFormed}
 use Rattle.dl_theory.specs.Kept.{lists_of}
 use Rattle.dl_theory.proofs.WellFormed.{drop_pair_keeps}
-use Rattle.dl_theory.proofs.theory.Theory.drop_pair.Goals as goal
+use Rattle.dl_theory.proofs.theory.Theory.remove_pair.Goals as goal
 
 pub invariant_of-self : goal.invariant_of-self
 invariant_of-self c =
