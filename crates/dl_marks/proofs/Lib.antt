@@ -1,0 +1,3 @@
+pub mod MarkLemmas
+mod ByteLemmas
+mod RowLemmas
