@@ -1,0 +1,27 @@
+-- Tables that hold the same, one after another.
+use Rattle.std.proofs.Common.{◌≡◌, ℕ, List, [], ◌∷◌, ◌++◌, length, get_or, zero, suc, refl, ap, ◌∙◌, arith, length-append}
+use Rattle.dl_net.specs.Tables.{Table, KeepsLists}
+
+pub get_or-push_default : {X : Type 0} (xs : List X) (n : ℕ) (d : X) → get_or (xs ++ d ∷ []) n d ≡ get_or xs n d
+get_or-push_default [] zero d = refl
+get_or-push_default [] (suc n) d = refl
+get_or-push_default (x ∷ xs) zero d = refl
+get_or-push_default (x ∷ xs) (suc n) d = get_or-push_default xs n d
+
+pub KeepsLists-refl : (t : Table) → KeepsLists t t
+KeepsLists-refl t = record { lists = λ n. refl; wide = omega arith; room = λ n. omega arith }
+
+pub KeepsLists-trans : (t u v : Table) → KeepsLists t u → KeepsLists u v → KeepsLists t v
+KeepsLists-trans t u v h k = record {
+  lists = λ n. k.lists n ∙ h.lists n;
+  wide = omega (arith, h.wide, k.wide);
+  room = λ n. omega (arith, h.room n, k.room n);
+}
+
+-- one more list, which is empty
+pub KeepsLists-grown : (old new : Table) → new.lists ≡ old.lists ++ [] ∷ [] → new.spare ≡ old.spare ++ 0 ∷ [] → KeepsLists old new
+KeepsLists-grown old new e f = record {
+  lists = λ n. ap (λ (ls : List (List ℕ)). get_or ls n []) e ∙ get_or-push_default old.lists n [];
+  wide = omega (arith, ap length e, length-append old.lists ([] ∷ []));
+  room = λ n. omega (arith, ap (λ (ls : List ℕ). get_or ls n 0) f, get_or-push_default old.spare n 0);
+}

@@ -1,0 +1,214 @@
+-- Literals and their numbers.
+use Rattle.std.proofs.Common.{◌≡◌, ◌≢◌, ◌⊎◌, ℕ, zero, suc, ◌+◌, ◌%◌, ◌<◌, Bool, true, false, not, Some, Result, Ok, Err, List, [], ◌∷◌, ◌++◌, length, get_or, set, get_or-set_same, get_or-set_other, refl, sym, ap, subst, ◌∙◌, arith, inl, inr, position}
+use Rattle.std.specs.Prelude.{Contains, OnOk, OnErr, if◌then◌else◌}
+use Rattle.std.specs.Bool.{Decides}
+use Rattle.std.specs.List.{list_any}
+use Rattle.std.specs.Set.{is_member}
+use Rattle.std.proofs.lemmas.Bool.{cases_eq}
+use Rattle.std.proofs.lemmas.Bool.Decides.{Decides-like, same_from_decides}
+use Rattle.std.proofs.lemmas.List.{get_or_default, append_assoc, append-nil}
+use Rattle.std.proofs.lemmas.List.Sums.{position_or_len_is}
+use Rattle.std.proofs.lemmas.List.Quantifiers.{position-Some}
+use Rattle.std.proofs.lemmas.List.Elements.{All-nil, All-push, All-weaker, Contains-append_left, Contains-append_right, Contains-append_cases, Contains-push, All-append}
+use Rattle.std.proofs.lemmas.Map.Made.{is_member-Decides}
+use Rattle.dl_base.specs.Paths.{IsDistinct}
+use Rattle.dl_base.proofs.Filters.{false_unless}
+use Rattle.dl_base.proofs.Members.{only}
+use Rattle.dl_lit.specs.declared.literal.Literal.{Literal}
+use Rattle.dl_lit.specs.Literal.{literal_eq, complement}
+use Rattle.dl_lit.specs.Names.{with_name, with_both}
+use Rattle.dl_lit.specs.Order.{literal_eq-Decides}
+use Rattle.dl_net.specs.Above.{flip}
+use Rattle.dl_theory.specs.declared.rule.Rule.{Rule}
+use Rattle.dl_net.specs.Numbers.{no_literal}
+use Rattle.dl_net.specs.Named.{IsPaired, IsNear, Grows, HasLiterals, number_in}
+
+-- ---- complements
+
+not_twice : (b : Bool) → not (not b) ≡ b
+not_twice true = refl
+not_twice false = refl
+
+pub complement_twice : (q : Literal) → complement (complement q) ≡ q
+complement_twice q = λ i. record q { positive = not_twice q.positive i }
+
+not_same : (b : Bool) → not b ≢ b
+not_same true e = cc
+not_same false e = cc
+
+pub complement_differs : (q : Literal) → complement q ≢ q
+complement_differs q e = not_same q.positive (ap (λ x. x.positive) e)
+
+closed_at : (ls : List Literal) → IsPaired ls → (q : Literal) (i : ℕ) → i < length ls → get_or ls i q ≡ q → Contains ls (complement q)
+closed_at [] h q i lt e = absurd (omega (arith, lt))
+closed_at (x ∷ []) h q i lt e = absurd h
+closed_at (x ∷ y ∷ ls) h q zero lt e = (1, omega arith, h.0 ∙ ap complement e)
+closed_at (x ∷ y ∷ ls) h q (suc zero) lt e = (0, omega arith, sym (complement_twice x) ∙ ap complement (sym h.0 ∙ e))
+closed_at (x ∷ y ∷ ls) h q (suc (suc i)) lt e =
+    let m = closed_at ls h.1 q i (omega (arith, lt)) e in Contains-append_right (x ∷ y ∷ []) ls (complement q) m
+
+-- with a literal its complement is there
+pub paired_closed : (ls : List Literal) → IsPaired ls → (q : Literal) → Contains ls q → Contains ls (complement q)
+paired_closed ls h q m = closed_at ls h q m.0 m.1 m.2
+
+pub paired_push : (ls : List Literal) (q : Literal) → IsPaired ls → IsPaired ((ls ++ q ∷ []) ++ complement q ∷ [])
+paired_push [] q h = (refl, tt)
+paired_push (x ∷ []) q h = absurd h
+paired_push (x ∷ y ∷ ls) q h = (h.0, paired_push ls q h.1)
+
+pub flip_even : (k : ℕ) → k % 2 ≡ 0 → flip k ≡ k + 1
+flip_even zero e = refl
+flip_even (suc zero) e = absurd (omega (arith, e))
+flip_even (suc (suc k)) e = omega (arith, flip_even k (omega (arith, e)))
+
+pub flip_odd : (k : ℕ) → k % 2 ≢ 0 → flip k + 1 ≡ k
+flip_odd zero e = absurd (e refl)
+flip_odd (suc zero) e = refl
+flip_odd (suc (suc k)) e = omega (arith, flip_odd k (λ z. e (omega (arith, z))))
+
+pub paired_at : (ls : List Literal) → IsPaired ls → (k : ℕ) (d : Literal) → k < length ls
+    → (flip k < length ls) × (get_or ls (flip k) d ≡ complement (get_or ls k d))
+paired_at [] h k d lt = absurd (omega (arith, lt))
+paired_at (x ∷ []) h k d lt = absurd h
+paired_at (x ∷ y ∷ ls) h zero d lt = (omega arith, h.0)
+paired_at (x ∷ y ∷ ls) h (suc zero) d lt = (omega arith, sym (complement_twice x) ∙ ap complement (sym h.0))
+paired_at (x ∷ y ∷ ls) h (suc (suc k)) d lt =
+    let r = paired_at ls h.1 k d (omega (arith, lt)) in (omega (arith, r.0), r.1)
+
+-- ---- numbers
+
+pub number_at : (ls : List Literal) (k : ℕ) (d : Literal) → IsDistinct ls → k < length ls → number_in ls (get_or ls k d) ≡ k
+number_at ls k d distinct within =
+    let q : Literal = get_or ls k d in
+    position_or_len_is (λ x. literal_eq x q) ls k d (omega (arith, within))
+    (λ j before. false_unless (literal_eq (get_or ls j d) q) (literal_eq-Decides (get_or ls j d) q) (λ same. distinct j k d before within same))
+    (λ _. (literal_eq-Decides q q).1 refl)
+
+pub found_at : (ls : List Literal) (q : Literal) (n : ℕ) → position (literal_eq q) ls ≡ Some n → (n < length ls) × ((d : Literal) → get_or ls n d ≡ q)
+found_at ls q n e =
+    let p = position-Some (literal_eq q) ls n q e in
+    let there : get_or ls n q ≡ q = sym ((literal_eq-Decides q (get_or ls n q)).0 p.1) in
+    (p.0, λ d. get_or_default ls n d q p.0 ∙ there)
+
+pub number_found : (ls : List Literal) (q : Literal) (n : ℕ) → IsDistinct ls → position (literal_eq q) ls ≡ Some n → number_in ls q ≡ n
+number_found ls q n distinct e =
+    let at = found_at ls q n e in
+    ap (number_in ls) (sym (at.1 q)) ∙ number_at ls n q distinct at.0
+
+pub number_within : (ls : List Literal) (q : Literal) → IsDistinct ls → Contains ls q → (number_in ls q < length ls) × ((d : Literal) → get_or ls (number_in ls q) d ≡ q)
+number_within ls q distinct m =
+    let is : number_in ls q ≡ m.0 = ap (number_in ls) (sym m.2) ∙ number_at ls m.0 q distinct m.1 in
+    (omega (arith, is, m.1), λ d. ap (λ k. get_or ls k d) is ∙ get_or_default ls m.0 d q m.1 ∙ m.2)
+
+-- ---- growth
+
+pub Grows-none : (P : Literal → Type 0) (ls : List Literal) → Grows P ls ls
+Grows-none P ls = record { more = []; is = sym (append-nil ls); only = All-nil P }
+
+pub Grows-trans : (P : Literal → Type 0) (a b c : List Literal) → Grows P a b → Grows P b c → Grows P a c
+Grows-trans P a b c h k = record {
+  more = h.more ++ k.more;
+  is = k.is ∙ ap (λ ls. ls ++ k.more) h.is ∙ append_assoc a h.more k.more;
+  only = All-append P h.more k.more h.only k.only;
+}
+
+pub Grows-weaker : (P Q : Literal → Type 0) (a b : List Literal) → ((q : Literal) → P q → Q q) → Grows P a b → Grows Q a b
+Grows-weaker P Q a b f h = record { more = h.more; is = h.is; only = All-weaker P Q f h.more h.only }
+
+pub Grows-keeps : (P : Literal → Type 0) (a b : List Literal) (q : Literal) → Grows P a b → Contains a q → Contains b q
+Grows-keeps P a b q h m = subst (λ (ls : List Literal). Contains ls q) (sym h.is) (Contains-append_left a h.more q m)
+
+choose : (ls : List Literal) (q : Literal) (b : Bool) → Decides b (Contains ls q)
+    → (Contains ls q × ((if b then ls else ls ++ q ∷ []) ≡ ls)) ⊎ ((¬ Contains ls q) × ((if b then ls else ls ++ q ∷ []) ≡ ls ++ q ∷ []))
+choose ls q true d = inl (d.0 refl, refl)
+choose ls q false d = inr (λ m. let yes = d.1 m in cc, refl)
+
+name_cases : (ls : List Literal) (q : Literal)
+    → (Contains ls q × (with_name ls q ≡ ls)) ⊎ ((¬ Contains ls q) × (with_name ls q ≡ ls ++ q ∷ []))
+name_cases ls q = choose ls q (list_any (literal_eq q) ls) (is_member-Decides literal_eq-Decides ls q)
+
+-- a literal and its complement are there, or both are new
+pub both_cases : (ls : List Literal) (q : Literal) → IsPaired ls
+    → (with_both ls q ≡ ls) ⊎ (with_both ls q ≡ (ls ++ q ∷ []) ++ complement q ∷ [])
+both_cases ls q h =
+    elim (name_cases ls q) [
+      | inl old ↦ elim (name_cases ls (complement q)) [
+        | inl there ↦ inl (ap (λ ks. with_name ks (complement q)) old.1 ∙ there.1)
+        | inr none ↦ absurd (none.0 (paired_closed ls h q old.0))
+      ]
+      | inr new ↦ elim (name_cases (ls ++ q ∷ []) (complement q)) [
+        | inl there ↦ elim (Contains-append_cases ls (q ∷ []) (complement q) there.0) [
+          | inl before ↦ absurd (new.0 (subst (Contains ls) (complement_twice q) (paired_closed ls h (complement q) before)))
+          | inr one ↦ absurd (complement_differs q (only q (complement q) one))
+        ]
+        | inr none ↦ inr (ap (λ ks. with_name ks (complement q)) new.1 ∙ none.1)
+      ]
+    ]
+
+pub both_paired : (ls : List Literal) (q : Literal) → IsPaired ls → IsPaired (with_both ls q)
+both_paired ls q h =
+    elim (both_cases ls q h) [
+      | inl e ↦ subst IsPaired (sym e) h
+      | inr e ↦ subst IsPaired (sym e) (paired_push ls q h)
+    ]
+
+pub both_grows : (ls : List Literal) (q : Literal) → IsPaired ls → Grows (IsNear (q ∷ [])) ls (with_both ls q)
+both_grows ls q h =
+    elim (both_cases ls q h) [
+      | inl e ↦ subst (Grows (IsNear (q ∷ [])) ls) (sym e) (Grows-none (IsNear (q ∷ [])) ls)
+      | inr e ↦ record {
+        more = q ∷ complement q ∷ [];
+        is = e ∙ append_assoc ls (q ∷ []) (complement q ∷ []);
+        only = All-push (IsNear (q ∷ [])) (q ∷ []) (complement q)
+            (All-push (IsNear (q ∷ [])) [] q (All-nil (IsNear (q ∷ []))) (inl (0, omega arith, refl)))
+            (inr (0, omega arith, sym (complement_twice q)));
+      }
+    ]
+
+-- with both numbers, the literal is there
+pub both_has : (ls : List Literal) (q r : Literal) → IsPaired ls → Contains ls r → Contains (with_both ls q) r
+both_has ls q r h m = Grows-keeps (IsNear (q ∷ [])) ls (with_both ls q) r (both_grows ls q h) m
+
+-- what a call that adds both or neither leaves
+pub by_result : {E : Type 0} (r : Result (Unit {0}) E) (P : List Literal → Type 0) (old new with' : List Literal) → OnOk r (new ≡ with') → OnErr r (new ≡ old)
+    → P with' → P old → P new
+by_result (Ok u) P old new with' ok err there kept = subst P (sym ok) there
+by_result (Err e) P old new with' ok err there kept = subst P (sym err) kept
+
+pub near_head : (q : Literal) (qs : List Literal) (r : Literal) → IsNear (q ∷ []) r → IsNear (q ∷ qs) r
+near_head q qs r (inl m) = inl (Contains-append_left (q ∷ []) qs r m)
+near_head q qs r (inr m) = inr (Contains-append_left (q ∷ []) qs (complement r) m)
+
+pub near_tail : (q : Literal) (qs : List Literal) (r : Literal) → IsNear qs r → IsNear (q ∷ qs) r
+near_tail q qs r (inl m) = inl (Contains-append_right (q ∷ []) qs r m)
+near_tail q qs r (inr m) = inr (Contains-append_right (q ∷ []) qs (complement r) m)
+
+pub near_member : (q : Literal) (qs : List Literal) (r : Literal) → Contains qs q → IsNear (q ∷ []) r → IsNear qs r
+near_member q qs r there (inl m) = inl (subst (λ (x : Literal). Contains qs x) (sym (only q r m)) there)
+near_member q qs r there (inr m) = inr (subst (λ (x : Literal). Contains qs x) (sym (only q (complement r) m)) there)
+
+-- a rule's literals stay
+pub literals_kept : (a b : List Literal) (r : Rule) → ((q : Literal) → Contains a q → Contains b q) → HasLiterals a r → HasLiterals b r
+literals_kept a b r more h = (more r.head h.0, All-weaker (Contains a) (Contains b) more r.body h.1)
+
+pub mark_step : (ls xs : List Literal) (marks marks' : List Bool) (q : Literal) → IsDistinct ls → Contains ls q → marks' ≡ set marks (number_in ls q) true
+    → length ls ≡ length marks → ((n : ℕ) → n < length ls → get_or marks n false ≡ is_member literal_eq xs (get_or ls n no_literal))
+    → (n : ℕ) → n < length ls → get_or marks' n false ≡ is_member literal_eq (xs ++ q ∷ []) (get_or ls n no_literal)
+mark_step ls xs marks marks' q distinct there is same h n lt =
+    let x : Literal = get_or ls n no_literal in
+    let at = number_within ls q distinct there in
+    elim (cases_eq n (number_in ls q)) [
+      | inl e ↦
+          let here : x ≡ q = ap (λ k. get_or ls k no_literal) e ∙ at.1 no_literal in
+          ap (λ ms. get_or ms n false) is ∙ ap (λ k. get_or (set marks (number_in ls q) true) k false) e
+          ∙ get_or-set_same marks (number_in ls q) true false (omega (arith, at.0, same))
+          ∙ sym ((is_member-Decides literal_eq-Decides (xs ++ q ∷ []) x).1 (subst (λ (y : Literal). Contains (xs ++ q ∷ []) y) (sym here) (Contains-push xs q)))
+      | inr differs ↦
+          let other : x ≢ q = λ e. differs (sym (number_at ls n no_literal distinct lt) ∙ ap (number_in ls) e) in
+          ap (λ ms. get_or ms n false) is ∙ get_or-set_other marks (number_in ls q) n true false differs ∙ h n lt
+          ∙ same_from_decides (is_member literal_eq xs x) (is_member literal_eq (xs ++ q ∷ []) x) (is_member-Decides literal_eq-Decides xs x)
+          (Decides-like (is_member literal_eq (xs ++ q ∷ []) x)
+          (λ m. elim (Contains-append_cases xs (q ∷ []) x m) [ inl old ↦ old | inr one ↦ absurd (other (only q x one)) ])
+          (λ m. Contains-append_left xs (q ∷ []) x m)
+          (is_member-Decides literal_eq-Decides (xs ++ q ∷ []) x))
+    ]

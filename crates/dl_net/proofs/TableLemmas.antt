@@ -1,0 +1,49 @@
+-- One list of a table changes.
+use Rattle.std.specs.Vec.{vec_len, vec_capacity}
+use Rattle.dl_net.specs.Tables.{KeepsLists}
+use Rattle.std.proofs.Common.{◌≡◌, ◌≢◌, ℕ, ◌<◌, ◌≤◌, ◌-◌, Vec, Global, List, [], length, get_or, set, map, sym, ap, ◌∙◌, subst, arith, inl, inr, get_or-set_same, get_or-set_other}
+use Rattle.std.proofs.Math.ListN.{length-map}
+use Rattle.std.proofs.lemmas.List.{get_or-map, map-set, get_or_past}
+use Rattle.std.proofs.Math.Seq.{map-set_same}
+use Rattle.std.proofs.lemmas.Bool.{cases_eq, cases_lt}
+
+module _ {X : Type 0} {Y : Type 0} (f : X → Y) (xs : List X) (i : ℕ) (old new : X) (within : i < length xs) (read : old ≡ get_or xs i old) where
+  pub map_kept : f new ≡ f old → map f (set xs i new) ≡ map f xs
+  map_kept e = map-set_same f xs i new old (e ∙ ap f read)
+
+  pub map_written : (y : Y) → f new ≡ y → map f (set xs i new) ≡ set (map f xs) i y
+  map_written y e = map-set f xs i new ∙ ap (λ z. set (map f xs) i z) e
+
+  pub map_at : (e : Y) → get_or (map f xs) i e ≡ f old
+  map_at e = get_or-map f xs i old e within ∙ ap f (sym read)
+
+  pub map_other : (n : ℕ) (e : Y) → n ≢ i → get_or (map f (set xs i new)) n e ≡ get_or (map f xs) n e
+  map_other n e differs = ap (λ ys. get_or ys n e) (map-set f xs i new) ∙ get_or-set_other (map f xs) i n (f new) e differs
+
+  pub map_here : (e : Y) → get_or (map f (set xs i new)) i e ≡ f new
+  map_here e =
+      ap (λ ys. get_or ys i e) (map-set f xs i new)
+      ∙ get_or-set_same (map f xs) i (f new) e (subst (λ k. i < k) (sym (length-map xs f)) within)
+
+pub map_rises : {X : Type 0} (f : X → ℕ) (xs : List X) (i : ℕ) (old new : X) → i < length xs → old ≡ get_or xs i old → f old ≤ f new → (n : ℕ)
+    → get_or (map f xs) n 0 ≤ get_or (map f (set xs i new)) n 0
+map_rises f xs i old new within read up n =
+    elim (cases_eq n i) [
+      | inl e ↦ rw e (omega (arith, map_at f xs i old new within read 0, map_here f xs i old new within read 0, up))
+      | inr differs ↦ omega (arith, map_other f xs i old new within read n 0 differs)
+    ]
+
+pub spare_within : (xs : List ℕ) (i : ℕ) → 0 < get_or xs i 0 → i < length xs
+spare_within xs i h =
+    elim (cases_lt i (length xs)) [ inl lt ↦ lt | inr ge ↦ let none : get_or xs i 0 ≡ 0 = get_or_past xs i 0 ge in absurd (omega (arith, none, h)) ]
+
+-- a list of which only the room grows
+pub kept_lists : (xs : List (Vec ℕ Global)) (i : ℕ) (old new : Vec ℕ Global) → i < length xs → old ≡ get_or xs i old → new.items ≡ old.items
+    → vec_capacity old - vec_len old ≤ vec_capacity new - vec_len new
+    → KeepsLists (record { lists = map (λ v. v.items) xs; spare = map (λ v. vec_capacity v - vec_len v) xs })
+    (record { lists = map (λ v. v.items) (set xs i new); spare = map (λ v. vec_capacity v - vec_len v) (set xs i new) })
+kept_lists xs i old new within read same up = record {
+  lists = λ n. ap (λ (ls : List (List ℕ)). get_or ls n []) (map_kept (λ v. v.items) xs i old new within read same);
+  wide = omega (arith, ap length (map_kept (λ v. v.items) xs i old new within read same));
+  room = map_rises (λ v. vec_capacity v - vec_len v) xs i old new within read up;
+}

@@ -1,0 +1,72 @@
+use Rattle.std.proofs.Common.{◌≡◌, ℕ, ◌<◌, Option, Some, List, [], ◌∷◌, ◌++◌, length, map, sym, ap, subst, ◌∙◌, arith, refl, length-append}
+use Rattle.std.specs.Prelude.{Contains, option_to_list}
+use Rattle.std.proofs.lemmas.List.Elements.{Contains-append_left, All-contains, All-weaker}
+use Rattle.dl_net.specs.Counting.{each_once}
+use Rattle.dl_net.specs.declared.entry.Entry.{Entry}
+use Rattle.dl_net.specs.declared.entry.Room.{Room}
+use Rattle.dl_net.specs.Tables.{list_at}
+use Rattle.dl_net.specs.Lines.{IndexLists}
+use Rattle.dl_net.specs.Indexes.{line_at, by_place, HasRules, HasLinks}
+use Rattle.dl_net.specs.KeptIndex.{HasRoom, HasRuleRoom, ready_of}
+use Rattle.dl_net.proofs.PlaceLemmas.{uses_there}
+use Rattle.dl_net.proofs.RuleLemmas.{HasRules-add, HasLinks-more, KeepsLists-refl, lines-add, by_place-add}
+use Rattle.dl_net.proofs.index.Index.put.Goals as goal
+
+pub put_rule-requires-clause-fresh : goal.put_rule-requires-clause-fresh
+put_rule-requires-clause-fresh c = λ n.
+    All-weaker (Contains c.self.inside.order.items) (λ s. s < length c.self.inside.entries.items)
+    (λ s m. All-contains (λ t. t < length c.self.inside.entries.items) c.self.inside.order.items s c.self.invariant.rules.within m)
+    (list_at c.self.inside.uses n)
+    (uses_there c.self.inside.entries.items c.self.inside.order.items c.self.inside.places.items c.self.inside.heads c.self.inside.uses c.self.invariant.rules n)
+
+pub invariant_of-self : goal.invariant_of-self
+invariant_of-self c =
+    let room : HasRuleRoom c.self.inside c.in-ForRule.entry =
+    subst (λ (r : Room). HasRoom c.self.inside r) (sym c.in-ForRule.ensures.value) c.self.invariant.room in
+    let entries : List (Option Entry) = c.self.inside.entries.items in
+    let order : List ℕ = c.self.inside.order.items in
+    let places : List ℕ = c.self.inside.places.items in
+    let e : Entry = record c.in-ForRule.entry { width = length (each_once c.in-ForRule.entry.body.items) } in
+    let held : HasRules (entries ++ Some e ∷ []) (order ++ length entries ∷ []) (places ++ length order ∷ []) c.put_rule.new.heads c.put_rule.new.uses =
+    HasRules-add entries e order places c.self.inside.heads c.self.inside.uses c.put_rule.new.heads c.put_rule.new.uses c.self.invariant.rules
+    room.within refl c.put_rule.ensures.heads c.put_rule.ensures.uses c.put_rule.ensures.uses_same in
+    let linked : HasLinks (length (entries ++ Some e ∷ [])) (order ++ length entries ∷ []) c.self.inside.lowers c.self.inside.uppers =
+    HasLinks-more (length entries) (length (entries ++ Some e ∷ [])) order (order ++ length entries ∷ []) c.self.inside.lowers c.self.inside.uppers
+    c.self.inside.lowers c.self.inside.uppers (KeepsLists-refl c.self.inside.lowers) (KeepsLists-refl c.self.inside.uppers) c.self.invariant.links
+    (λ s m. Contains-append_left order (length entries ∷ []) s m) (omega (arith, length-append entries (Some e ∷ [])))
+    (omega (arith, length-append entries (Some e ∷ []), room.lowers_room)) (omega (arith, length-append entries (Some e ∷ []), room.uppers_room)) in
+    record {
+      rules = rw (c.put_rule.ensures.entries, c.put_rule.ensures.order, c.put_rule.ensures.places) held;
+      links = rw (c.put_rule.ensures.entries, c.put_rule.ensures.order) linked;
+      room = rw c.replace.ensures.after tt;
+    }
+
+pub returns-clause-lines : goal.returns-clause-lines
+returns-clause-lines c =
+    let entries : List (Option Entry) = c.self.inside.entries.items in
+    let e : Entry = record c.in-ForRule.entry { width = length (each_once c.in-ForRule.entry.body.items) } in
+    subst (λ (v : IndexLists). map (line_at c.put_rule.new.entries.items) c.put_rule.new.order.items ≡ v.lines ++ option_to_list v.ready) c.self.view_is
+    (ap (λ (es : List (Option Entry)). map (line_at es) c.put_rule.new.order.items) c.put_rule.ensures.entries
+    ∙ ap (λ (os : List ℕ). map (line_at (entries ++ Some e ∷ [])) os) c.put_rule.ensures.order
+    ∙ lines-add entries e c.self.inside.order.items c.self.invariant.rules.within
+    ∙ ap (λ (r : Room). map (line_at entries) c.self.inside.order.items ++ option_to_list (ready_of r)) c.in-ForRule.ensures.value)
+
+pub returns-clause-lowers : goal.returns-clause-lowers
+returns-clause-lowers c =
+    let entries : List (Option Entry) = c.self.inside.entries.items in
+    let order : List ℕ = c.self.inside.order.items in
+    subst (λ (v : IndexLists). by_place c.put_rule.new.order.items c.put_rule.new.places.items c.self.inside.lowers ≡ v.lowers ++ [] ∷ []) c.self.view_is
+    (ap (λ (os : List ℕ). by_place os c.put_rule.new.places.items c.self.inside.lowers) c.put_rule.ensures.order
+    ∙ ap (λ (ps : List ℕ). by_place (order ++ length entries ∷ []) ps c.self.inside.lowers) c.put_rule.ensures.places
+    ∙ by_place-add (length entries) order c.self.inside.places.items c.self.inside.lowers c.self.inside.lowers (KeepsLists-refl c.self.inside.lowers)
+    c.self.invariant.rules.within c.self.invariant.rules.as_long c.self.invariant.links.lower_there (c.self.invariant.links.lower_past (length entries) (omega arith)))
+
+pub returns-clause-uppers : goal.returns-clause-uppers
+returns-clause-uppers c =
+    let entries : List (Option Entry) = c.self.inside.entries.items in
+    let order : List ℕ = c.self.inside.order.items in
+    subst (λ (v : IndexLists). by_place c.put_rule.new.order.items c.put_rule.new.places.items c.self.inside.uppers ≡ v.uppers ++ [] ∷ []) c.self.view_is
+    (ap (λ (os : List ℕ). by_place os c.put_rule.new.places.items c.self.inside.uppers) c.put_rule.ensures.order
+    ∙ ap (λ (ps : List ℕ). by_place (order ++ length entries ∷ []) ps c.self.inside.uppers) c.put_rule.ensures.places
+    ∙ by_place-add (length entries) order c.self.inside.places.items c.self.inside.uppers c.self.inside.uppers (KeepsLists-refl c.self.inside.uppers)
+    c.self.invariant.rules.within c.self.invariant.rules.as_long c.self.invariant.links.upper_there (c.self.invariant.links.upper_past (length entries) (omega arith)))

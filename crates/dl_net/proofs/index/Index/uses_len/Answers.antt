@@ -1,0 +1,16 @@
+use Rattle.std.proofs.Common.{◌≡◌, length, sym, ap, subst, ◌∙◌}
+use Rattle.std.proofs.Math.ListN.{length-map}
+use Rattle.dl_net.specs.Rows.{places}
+use Rattle.dl_net.specs.Tables.{list_at}
+use Rattle.dl_net.specs.Lines.{IndexLists, uses_row}
+use Rattle.dl_net.specs.Indexes.{place_in}
+use Rattle.dl_net.proofs.PlaceLemmas.{uses_are}
+use Rattle.dl_net.proofs.index.Index.uses_len.Goals as goal
+
+pub returns : goal.returns
+returns c =
+    subst (λ (v : IndexLists). c.count.result ≡ length (places uses_row v.lines c.args.number)) c.self.view_is
+    (c.count.ensures
+    ∙ sym (length-map (list_at c.self.inside.uses c.args.number) (place_in c.self.inside.places.items))
+    ∙ ap length (uses_are c.self.inside.entries.items c.self.inside.order.items c.self.inside.places.items c.self.inside.heads c.self.inside.uses
+    c.self.invariant.rules c.args.number))

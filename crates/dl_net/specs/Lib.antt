@@ -1,0 +1,13 @@
+pub mod Counting
+pub mod Rows
+pub mod Numbers
+pub mod Tables
+pub mod TablesView
+pub mod Lines
+pub mod Indexes
+pub mod KeptIndex
+pub mod Named
+pub mod Above
+pub mod KeptNet
+pub mod Edited
+pub mod Region

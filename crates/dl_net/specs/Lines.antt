@@ -1,0 +1,80 @@
+-- Rules by number, and the lists that lead to them.
+use Rattle.std.specs.Prelude.{◌≡◌, ℕ, ◌<◌, ◌≤◌, ◌==◌, Bool, cond, Option, None, Some, List, [], ◌∷◌, length, All, get_or}
+use Rattle.std.specs.List.{list_any}
+use Rattle.dl_theory.specs.declared.rule.Kind.{Kind}
+use Rattle.dl_theory.specs.declared.rule.Kind.TheVariants.{Defeater}
+use Rattle.dl_theory.specs.Lists.{is_strict, can_support}
+use Rattle.dl_net.specs.Counting.{each_once}
+use Rattle.dl_net.specs.declared.entry.Entry.{Entry}
+
+-- a rule by the numbers of its literals
+pub record Line : Type 0 where
+  pub kind : Kind
+  pub head : ℕ
+  pub body : List ℕ
+
+abbrev pub no_line : Line
+no_line = record { kind = Defeater; head = 0; body = [] }
+
+-- whether the number is in the list
+abbrev pub is_in : List ℕ → ℕ → Bool
+is_in xs n = list_any (λ x. n == x) xs
+
+-- whether a rule is strict, or else whether it can support its head
+abbrev pub passes : Bool → Kind → Bool
+passes strict k = cond strict (is_strict k) (can_support k)
+
+abbrev pub kind_row : Bool → Line → List ℕ
+kind_row strict l = cond (passes strict l.kind) (l.head ∷ []) []
+
+abbrev pub heads_row : Line → List ℕ
+heads_row l = l.head ∷ []
+
+abbrev pub uses_row : Line → List ℕ
+uses_row l = each_once l.body
+
+-- the places of two rules, one above the other
+pub record Meeting : Type 0 where
+  pub upper : ℕ
+  pub lower : ℕ
+
+-- the rules by place; for each, those below it and those above it, by place; for how many literals there are lists; and the rule or
+-- the two rules for which there is memory
+pub record IndexLists : Type 0 where
+  pub lines : List Line
+  pub lowers : List (List ℕ)
+  pub uppers : List (List ℕ)
+  pub width : ℕ
+  pub ready : Option Line
+  pub linking : Option Meeting
+
+abbrev pub no_index : IndexLists
+no_index = record { lines = []; lowers = []; uppers = []; width = 0; ready = None; linking = None }
+
+-- the rules stay, and no list of literals goes
+pub record KeepsRules (old new : IndexLists) : Type 0 where
+  pub lines : new.lines ≡ old.lines
+  pub lowers : new.lowers ≡ old.lowers
+  pub uppers : new.uppers ≡ old.uppers
+  pub wider : old.width ≤ new.width
+
+-- the numbers are below the width
+abbrev pub IsWithin : ℕ → Line → Type 0
+IsWithin width l = (l.head < width) × All (λ b. b < width) l.body
+
+abbrev pub list_of : List (List ℕ) → ℕ → List ℕ
+list_of lists n = get_or lists n []
+
+-- ---- by inner number
+
+abbrev pub line_of : Option Entry → Line
+line_of None = no_line
+line_of (Some e) = record { kind = e.kind; head = e.head; body = e.body.items }
+
+abbrev pub entry_at : List (Option Entry) → ℕ → Option Entry
+entry_at entries s = get_or entries s None
+
+-- the entry of a rule that is there
+abbrev pub IsKeptEntry : ℕ → Option Entry → Type 0
+IsKeptEntry width None = ⊥
+IsKeptEntry width (Some e) = IsWithin width (line_of (Some e)) × (e.width ≡ length (each_once e.body.items))

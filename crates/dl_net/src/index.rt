@@ -1,0 +1,348 @@
+//! Rules by number, each found by its head, by each literal of its body, and by what it is superior or inferior to.
+//!
+//! Inside, a rule has a number that does not move; callers name it by its place in the list. A rule that goes leaves its
+//! number empty, and no other rule's body, index or number changes.
+
+ghost use Rattle.std.specs.Prelude.{◌≡◌, ℕ, ◌+◌, ◌<◌, ◌≤◌, ◌^◌, [], ◌∷◌, ◌++◌, All, Some, None, IsSome, IfSome, OnOk, OnErr, option_to_list, length, filter, slice_get, get_or, set, map};
+ghost use Rattle.dl_theory.specs.Lists.{is_strict, can_support};
+ghost use Rattle.dl_net.specs.Counting.{each_once};
+ghost use Rattle.dl_net.specs.Rows.{places, row};
+ghost use Rattle.dl_net.specs.Tables.{list_at};
+ghost use Rattle.dl_net.specs.Lines.{KeepsRules, no_index, no_line, list_of, line_of, entry_at, heads_row, uses_row, kind_row, IsWithin};
+ghost use Rattle.dl_net.specs.Indexes.{place_in};
+
+use crate::counts::{can_support, count, passes};
+use crate::entry::{Between, Entry, Room};
+use crate::put::{put_rule, reserve_rule, widen};
+use crate::rows::RowTable;
+use dl_base::Memory;
+use dl_theory::Kind;
+use std::alloc::Global;
+use std::marker::Model;
+use std::mem;
+
+#[derive(Drop)]
+pub(crate) struct Index {
+    entries: Vec<Option<Entry>>,
+    order: Vec<u32>,
+    places: Vec<u32>,
+    heads: RowTable,
+    uses: RowTable,
+    lowers: RowTable,
+    uppers: RowTable,
+    room: Room,
+}
+
+impl Model for Index {
+    ghost use Rattle.dl_net.specs.Lines.{IndexLists};
+
+    ghost Value = { IndexLists };
+
+    ghost use Rattle.dl_net.specs.KeptIndex.{index_of, IsKeptIndex};
+
+    ghost view = { index_of };
+
+    ghost invariant = { IsKeptIndex };
+}
+
+impl Index {
+    pub fn make(alloc: Global) -> Index
+        ensures { result ≡ no_index }
+    {
+        Index {
+            entries: Vec::new(alloc),
+            order: Vec::new(alloc),
+            places: Vec::new(alloc),
+            heads: RowTable::make(alloc),
+            uses: RowTable::make(alloc),
+            lowers: RowTable::make(alloc),
+            uppers: RowTable::make(alloc),
+            room: Room::Nothing,
+        }
+    }
+
+    /// Lists for this many literals. What there was memory for is forgotten.
+    pub fn widen(&mut self, names: usize) -> Result<(), Memory>
+        ensures kept { KeepsRules self.old self.new }
+        ensures wide { OnOk result (names ≤ self.new.width) }
+        ensures ready { self.new.ready ≡ None }
+        ensures linking { self.new.linking ≡ None }
+    {
+        self.room = Room::Nothing;
+        widen(&mut self.uses, names)?;
+        widen(&mut self.heads, names)?;
+        Ok(())
+    }
+
+    /// Memory for one more rule.
+    pub fn reserve(&mut self, entry: Entry) -> Result<(), Memory>
+        requires within { IsWithin self.old.width (line_of (Some entry)) }
+        requires short { length entry.body.items < 2 ^ 32 }
+        ensures kept { KeepsRules self.old self.new }
+        ensures ready { OnOk result (self.new.ready ≡ Some (line_of (Some entry))) }
+        ensures forgotten { OnErr result (self.new.ready ≡ None) }
+        ensures linking { self.new.linking ≡ None }
+    {
+        self.room = Room::Nothing;
+        let count = self.entries.len() + 1;
+        widen(&mut self.lowers, count)?;
+        widen(&mut self.uppers, count)?;
+        reserve_rule(
+            &mut self.entries,
+            &mut self.order,
+            &mut self.places,
+            &mut self.heads,
+            &mut self.uses,
+            &entry,
+        )?;
+        self.room = Room::ForRule(entry);
+        Ok(())
+    }
+
+    /// The rule for which there is memory goes last.
+    pub fn put(&mut self)
+        requires { IsSome self.old.ready }
+        ensures lines { self.new.lines ≡ self.old.lines ++ option_to_list self.old.ready }
+        ensures lowers { self.new.lowers ≡ self.old.lowers ++ [] ∷ [] }
+        ensures uppers { self.new.uppers ≡ self.old.uppers ++ [] ∷ [] }
+        ensures width { self.new.width ≡ self.old.width }
+        ensures ready { self.new.ready ≡ None }
+        ensures linking { self.new.linking ≡ None }
+    {
+        match mem::replace(&mut self.room, Room::Nothing) {
+            Room::Nothing => unreachable!(),
+            Room::ForLink(_) => unreachable!(),
+            Room::ForRule(entry) => put_rule(
+                &mut self.entries,
+                &mut self.order,
+                &mut self.places,
+                &mut self.heads,
+                &mut self.uses,
+                entry,
+            ),
+        }
+    }
+
+    /// Memory for one rule below another.
+    pub fn reserve_link(&mut self, upper: usize, lower: usize) -> Result<(), Memory>
+        requires upper { upper < length self.old.lines }
+        requires lower { lower < length self.old.lines }
+        ensures kept { KeepsRules self.old self.new }
+        ensures linking { OnOk result (self.new.linking ≡ Some (record { upper = upper; lower = lower })) }
+        ensures forgotten { OnErr result (self.new.linking ≡ None) }
+        ensures ready { self.new.ready ≡ None }
+    {
+        self.room = Room::Nothing;
+        let upper = self.order[upper];
+        let lower = self.order[lower];
+        self.lowers.reserve(upper as usize)?;
+        self.uppers.reserve(lower as usize)?;
+        self.room = Room::ForLink(Between { upper, lower });
+        Ok(())
+    }
+
+    /// The rule for which there is memory goes below the other.
+    pub fn put_link(&mut self)
+        requires { IsSome self.old.linking }
+        ensures lines { self.new.lines ≡ self.old.lines }
+        ensures lowers { IfSome self.old.linking (λ m. self.new.lowers ≡ set self.old.lowers m.upper (list_of self.old.lowers m.upper ++ m.lower ∷ [])) }
+        ensures uppers { IfSome self.old.linking (λ m. self.new.uppers ≡ set self.old.uppers m.lower (list_of self.old.uppers m.lower ++ m.upper ∷ [])) }
+        ensures width { self.new.width ≡ self.old.width }
+        ensures ready { self.new.ready ≡ None }
+        ensures linking { self.new.linking ≡ None }
+    {
+        match mem::replace(&mut self.room, Room::Nothing) {
+            Room::Nothing => unreachable!(),
+            Room::ForRule(_) => unreachable!(),
+            Room::ForLink(link) => {
+                self.lowers.push(link.upper as usize, link.lower);
+                self.uppers.push(link.lower as usize, link.upper);
+            }
+        }
+    }
+
+    /// How many rules there are.
+    pub fn len(&self) -> usize
+        ensures { result ≡ length self.now.lines }
+    {
+        self.order.len()
+    }
+
+    pub fn kind(&self, rule: usize) -> Kind
+        requires { rule < length self.now.lines }
+        ensures { result ≡ (get_or self.now.lines rule no_line).kind }
+    {
+        self.entry(rule).kind
+    }
+
+    pub fn head(&self, rule: usize) -> usize
+        requires { rule < length self.now.lines }
+        ensures { result ≡ (get_or self.now.lines rule no_line).head }
+    {
+        self.entry(rule).head as usize
+    }
+
+    pub fn body(&self, rule: usize, at: usize) -> Option<usize>
+        requires { rule < length self.now.lines }
+        ensures { result ≡ slice_get (get_or self.now.lines rule no_line).body at }
+    {
+        match self.entry(rule).body.get(at) {
+            None => None,
+            Some(number) => Some(*number as usize),
+        }
+    }
+
+    /// How many numbers the body has, each counted once; none past the end.
+    pub fn width(&self, rule: usize) -> usize
+        ensures width { result ≡ length (row uses_row self.now.lines rule) }
+        ensures few { result < 2 ^ 32 }
+    {
+        if rule >= self.len() {
+            return 0;
+        }
+        self.entry(rule).width as usize
+    }
+
+    /// Whether the rule is there and can support its head.
+    pub fn supports(&self, rule: usize) -> bool
+        ensures { result ≡ can_support (get_or self.now.lines rule no_line).kind }
+    {
+        if rule >= self.len() {
+            return false;
+        }
+        can_support(self.kind(rule))
+    }
+
+    /// The head of a rule that is there.
+    pub fn headed(&self, rule: usize) -> Option<usize>
+        ensures { option_to_list result ≡ row heads_row self.now.lines rule }
+    {
+        if rule >= self.len() {
+            return None;
+        }
+        Some(self.head(rule))
+    }
+
+    /// The head of a rule that is there and strict, or else can support it.
+    pub fn concluded(&self, rule: usize, strict: bool) -> Option<usize>
+        ensures { option_to_list result ≡ row (kind_row strict) self.now.lines rule }
+    {
+        if rule >= self.len() {
+            return None;
+        }
+        if !passes(self.kind(rule), strict) {
+            return None;
+        }
+        Some(self.head(rule))
+    }
+
+    fn entry(&self, rule: usize) -> &Entry
+        requires { rule < length self.now.lines }
+        ensures line { line_of (Some result.now) ≡ get_or self.now.lines rule no_line }
+        ensures width { result.now.width ≡ length (each_once result.now.body.items) }
+    {
+        match &self.entries[self.order[rule] as usize] {
+            None => unreachable!(),
+            Some(entry) => entry,
+        }
+    }
+
+    /// The place of the rule at a place among those with this head.
+    pub fn heads_at(&self, number: usize, at: usize) -> Option<usize>
+        ensures { result ≡ slice_get (places heads_row self.now.lines number) at }
+    {
+        place_at(&self.heads, self.places.as_slice(), number, at)
+    }
+
+    pub fn heads_len(&self, number: usize) -> usize
+        ensures value { result ≡ length (places heads_row self.now.lines number) }
+        ensures few { result ≤ length self.now.lines }
+    {
+        self.heads.count(number)
+    }
+
+    /// How many of the rules with this head are strict, or else can support it.
+    pub fn heads_count(&self, number: usize, strict: bool) -> usize
+        ensures value { result ≡ length (places (kind_row strict) self.now.lines number) }
+        ensures few { result ≤ length self.now.lines }
+    {
+        count(self.entries.as_slice(), self.heads.row(number), strict)
+    }
+
+    /// The place of the rule at a place among those that have this literal in the body.
+    pub fn uses_at(&self, number: usize, at: usize) -> Option<usize>
+        ensures { result ≡ slice_get (places uses_row self.now.lines number) at }
+    {
+        place_at(&self.uses, self.places.as_slice(), number, at)
+    }
+
+    pub fn uses_len(&self, number: usize) -> usize
+        ensures { result ≡ length (places uses_row self.now.lines number) }
+    {
+        self.uses.count(number)
+    }
+
+    /// The place of the rule at a place among those below one.
+    pub fn lower_at(&self, rule: usize, at: usize) -> Option<usize>
+        ensures { result ≡ slice_get (list_of self.now.lowers rule) at }
+    {
+        match self.order.get(rule) {
+            None => None,
+            Some(inner) => place_at(&self.lowers, self.places.as_slice(), *inner as usize, at),
+        }
+    }
+
+    pub fn lower_len(&self, rule: usize) -> usize
+        ensures { result ≡ length (list_of self.now.lowers rule) }
+    {
+        match self.order.get(rule) {
+            None => 0,
+            Some(inner) => self.lowers.count(*inner as usize),
+        }
+    }
+
+    /// The place of the rule at a place among those above one.
+    pub fn upper_at(&self, rule: usize, at: usize) -> Option<usize>
+        ensures { result ≡ slice_get (list_of self.now.uppers rule) at }
+    {
+        match self.order.get(rule) {
+            None => None,
+            Some(inner) => place_at(&self.uppers, self.places.as_slice(), *inner as usize, at),
+        }
+    }
+
+    pub fn upper_len(&self, rule: usize) -> usize
+        ensures { result ≡ length (list_of self.now.uppers rule) }
+    {
+        match self.order.get(rule) {
+            None => 0,
+            Some(inner) => self.uppers.count(*inner as usize),
+        }
+    }
+
+    /// How many of the rules above one can support their heads.
+    pub fn upper_count(&self, rule: usize) -> usize
+        ensures { result ≡ length (filter (λ t. can_support (get_or self.now.lines t no_line).kind) (list_of self.now.uppers rule)) }
+    {
+        if rule >= self.order.len() {
+            return 0;
+        }
+        let inner = self.order[rule];
+        count(
+            self.entries.as_slice(),
+            self.uppers.row(inner as usize),
+            false,
+        )
+    }
+}
+
+/// The place of the rule at a place of a list.
+fn place_at(rows: &RowTable, places: &[u32], number: usize, at: usize) -> Option<usize>
+    requires { All (λ s. s < length places.now) (list_at rows.now number) }
+    ensures { result ≡ slice_get (map (place_in places.now) (list_at rows.now number)) at }
+{
+    match rows.get(number, at) {
+        None => None,
+        Some(inner) => Some(places[inner as usize] as usize),
+    }
+}

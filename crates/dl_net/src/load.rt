@@ -1,0 +1,132 @@
+//! The indexes of a whole theory, in one pass over its rules and one over its pairs.
+
+ghost use Rattle.std.specs.Prelude.{◌≡◌, ◌≤◌, ◌<◌, ◌^◌, ◌==◌, ◌++◌, ℕ, List, [], IfOk, OnOk, All, Contains, length, map, get_or};
+ghost use Rattle.dl_base.specs.Paths.{IsDistinct};
+ghost use Rattle.dl_theory.specs.declared.rule.Rule.{Rule};
+ghost use Rattle.dl_theory.specs.Lists.{labels};
+ghost use Rattle.dl_theory.specs.Edits.{HasBoth};
+ghost use Rattle.dl_theory.specs.Tests as test;
+ghost use Rattle.dl_net.specs.Above.{flip, lower_step, upper_step};
+ghost use Rattle.dl_net.specs.Named.{IsPaired, HasLiterals, line_in};
+ghost use Rattle.dl_net.specs.Numbers.{no_rule};
+ghost use Rattle.dl_net.specs.Lines.{no_line};
+ghost use Rattle.std.specs.List.{flat_map};
+
+use crate::index::Index;
+use crate::number::entry_of;
+use dl_base::Memory;
+use dl_lit::Names;
+use dl_theory::{Pair, Rule, Theory};
+use std::alloc::Global;
+
+/// The number of the complement: literals stand beside their complements.
+pub(crate) fn other(number: usize) -> usize
+    requires { number < 2 ^ 63 }
+    ensures { result ≡ flip number }
+{
+    if number % 2 == 0 {
+        number + 1
+    } else {
+        number - 1
+    }
+}
+
+/// The index of a whole theory.
+pub(crate) fn index_of(alloc: Global, names: &Names, theory: &Theory) -> Result<Index, Memory>
+    requires paired { IsPaired names.now.literals }
+    requires named { All (HasLiterals names.now.literals) theory.now.rules }
+    ensures lines { IfOk result (λ index. index.lines ≡ map (line_in names.now.literals) theory.now.rules) }
+    ensures lowers { IfOk result (λ index. index.lowers ≡ map (λ t. flat_map (λ p. lower_step theory.now p t) theory.now.pairs) theory.now.rules) }
+    ensures uppers { IfOk result (λ index. index.uppers ≡ map (λ u. flat_map (λ p. upper_step theory.now p u) theory.now.pairs) theory.now.rules) }
+    ensures wide { IfOk result (λ index. length names.now.literals ≤ index.width) }
+{
+    let mut index = Index::make(alloc);
+    index.widen(names.len())?;
+    load_rules(alloc, &mut index, names, theory.rules())?;
+    load_pairs(&mut index, names, theory)?;
+    Ok(index)
+}
+
+/// Rules by the numbers of their literals.
+pub(crate) fn load_rules(
+    alloc: Global,
+    index: &mut Index,
+    names: &Names,
+    rules: &[Rule],
+) -> Result<(), Memory>
+    requires distinct { IsDistinct names.now.literals }
+    requires named { All (HasLiterals names.now.literals) rules.now }
+    requires wide { length names.now.literals ≤ index.old.width }
+    requires lines { index.old.lines ≡ [] }
+    requires lowers { index.old.lowers ≡ [] }
+    requires uppers { index.old.uppers ≡ [] }
+    ensures lines { OnOk result (index.new.lines ≡ map (line_in names.now.literals) rules.now) }
+    ensures lowers { OnOk result (index.new.lowers ≡ map (λ _. []) rules.now) }
+    ensures uppers { OnOk result (index.new.uppers ≡ map (λ _. []) rules.now) }
+    ensures wide { OnOk result (length names.now.literals ≤ index.new.width) }
+{
+    for rule in rules {
+        let entry = entry_of(alloc, names, rule)?;
+        index.reserve(entry)?;
+        index.put();
+    }
+    Ok(())
+}
+
+/// Which rules stand below and above each rule.
+pub(crate) fn load_pairs(index: &mut Index, names: &Names, theory: &Theory) -> Result<(), Memory>
+    requires distinct { IsDistinct names.now.literals }
+    requires paired { IsPaired names.now.literals }
+    requires named { All (HasLiterals names.now.literals) theory.now.rules }
+    requires lines { index.old.lines ≡ map (line_in names.now.literals) theory.now.rules }
+    requires lowers { index.old.lowers ≡ map (λ _. []) theory.now.rules }
+    requires uppers { index.old.uppers ≡ map (λ _. []) theory.now.rules }
+    ensures lines { OnOk result (index.new.lines ≡ index.old.lines) }
+    ensures lowers { OnOk result (index.new.lowers ≡ map (λ t. flat_map (λ p. lower_step theory.now p t) theory.now.pairs) theory.now.rules) }
+    ensures uppers { OnOk result (index.new.uppers ≡ map (λ u. flat_map (λ p. upper_step theory.now p u) theory.now.pairs) theory.now.rules) }
+    ensures wide { OnOk result (index.old.width ≤ index.new.width) }
+{
+    let _count = theory.pairs_len();
+    for pair in theory.pairs() {
+        load_pair(index, names, theory, pair)?;
+    }
+    Ok(())
+}
+
+fn load_pair(index: &mut Index, names: &Names, theory: &Theory, pair: &Pair) -> Result<(), Memory>
+    requires distinct { IsDistinct names.now.literals }
+    requires paired { IsPaired names.now.literals }
+    requires named { All (HasLiterals names.now.literals) theory.now.rules }
+    requires lines { index.old.lines ≡ map (line_in names.now.literals) theory.now.rules }
+    requires labels { HasBoth theory.now pair.now }
+    ensures lines { OnOk result (index.new.lines ≡ index.old.lines) }
+    ensures lowers { OnOk result ((F : Rule → List ℕ) → index.old.lowers ≡ map F theory.now.rules → index.new.lowers ≡ map (λ t. F t ++ lower_step theory.now pair.now t) theory.now.rules) }
+    ensures uppers { OnOk result ((F : Rule → List ℕ) → index.old.uppers ≡ map F theory.now.rules → index.new.uppers ≡ map (λ u. F u ++ upper_step theory.now pair.now u) theory.now.rules) }
+    ensures wide { OnOk result (index.old.width ≤ index.new.width) }
+{
+    match theory.rule_place(&pair.upper) {
+        None => unreachable!(),
+        Some(upper) => match theory.rule_place(&pair.lower) {
+            None => unreachable!(),
+            Some(lower) => {
+                if !meet(index, names, upper, lower) {
+                    return Ok(());
+                }
+                index.reserve_link(upper, lower)?;
+                index.put_link();
+                Ok(())
+            }
+        },
+    }
+}
+
+/// Whether the head of one rule is attacked by that of another.
+pub(crate) fn meet(index: &Index, names: &Names, upper: usize, lower: usize) -> bool
+    requires upper { upper < length index.now.lines }
+    requires lower { lower < length index.now.lines }
+    requires few { (get_or index.now.lines upper no_line).head < length names.now.literals }
+    ensures { result ≡ ((get_or index.now.lines lower no_line).head == flip (get_or index.now.lines upper no_line).head) }
+{
+    let _count = names.len();
+    index.head(lower) == other(index.head(upper))
+}

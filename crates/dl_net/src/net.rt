@@ -1,0 +1,208 @@
+//! A theory by numbers.
+
+ghost use Rattle.std.specs.Prelude.{◌≡◌, ◌<◌, ◌^◌, ◌↔◌, ℕ, IfOk, IfSome, IfNone, ◌≤◌, IsTrue, None, true, false, All, Contains, length, map, position, slice_get, slice_index, get_or};
+ghost use Rattle.std.specs.List.{flat_map};
+ghost use Rattle.dl_net.specs.Above.{lower_step, upper_step};
+ghost use Rattle.dl_net.specs.Named.{IsPaired, HasLiterals, HasFacts, line_in};
+ghost use Rattle.std.specs.Option.{option_copied};
+ghost use Rattle.dl_lit.specs.Literal.{literal_eq};
+ghost use Rattle.dl_theory.specs.Lists.{IsWellFormed};
+ghost use Rattle.dl_theory.specs.Listings.{Mentions};
+
+use crate::index::Index;
+use crate::link::Link;
+use crate::load::{index_of, other};
+use crate::next::Next;
+use crate::number::{marks_of, number_theory};
+use dl_base::Memory;
+use dl_lit::{Literal, Names};
+use dl_theory::{Pair, Rule, Theory};
+use std::alloc::Global;
+use std::marker::Model;
+
+/// A theory whose literals and rules have numbers, with its indexes.
+///
+/// A literal's number stays; literal and complement stand beside each other. A rule's number is its place in the list.
+#[derive(Drop)]
+pub struct Net {
+    pub(crate) theory: Theory,
+    pub(crate) names: Names,
+    /// By number, whether the literal is a fact.
+    pub(crate) facts: Vec<bool>,
+    pub(crate) index: Index,
+    /// What the net becomes by the edit that is prepared.
+    pub(crate) next: Option<Next>,
+    pub(crate) frozen: bool,
+}
+
+impl Model for Net {
+    ghost use Rattle.dl_net.specs.Numbers.{NetLists};
+
+    ghost Value = { NetLists };
+
+    ghost use Rattle.dl_net.specs.KeptNet.{net_of, IsKeptNet};
+
+    ghost view = { net_of };
+
+    ghost invariant = { IsKeptNet };
+}
+
+impl Net {
+    ghost use Rattle.dl_net.specs.Numbers.{no_net, no_literal, literal_at, IsNumbered, number, number_of_other, is_fact, attackers_row, next, back};
+
+    /// The empty theory.
+    pub fn make(alloc: Global) -> Net
+        ensures { result ≡ no_net }
+    {
+        let theory = Theory::make(alloc);
+        let names = Names::make(alloc);
+        let facts = Vec::new(alloc);
+        let index = Index::make(alloc);
+        Net::whole(theory, names, facts, index, false)
+    }
+
+    /// The net of a whole theory, in one pass over its facts, rules and pairs.
+    pub fn of(alloc: Global, theory: Theory) -> Result<Net, Memory>
+        ensures theory { IfOk result (λ net. net.theory ≡ theory) }
+        ensures pending { IfOk result (λ net. net.pending ≡ None) }
+        ensures frozen { IfOk result (λ net. net.frozen ≡ false) }
+    {
+        let mut names = Names::make(alloc);
+        number_theory(&mut names, &theory)?;
+        let facts = marks_of(alloc, &names, theory.facts())?;
+        let index = index_of(alloc, &names, &theory)?;
+        Ok(Net::whole(theory, names, facts, index, false))
+    }
+
+    /// A net of these parts.
+    pub(crate) fn whole(
+        theory: Theory,
+        names: Names,
+        facts: Vec<bool>,
+        index: Index,
+        frozen: bool,
+    ) -> Net
+        requires paired { IsPaired names.literals }
+        requires named { All (HasLiterals names.literals) theory.rules }
+        requires facts_named { All (Contains names.literals) theory.facts }
+        requires facts { HasFacts names.literals theory.facts facts.items }
+        requires lines { index.lines ≡ map (line_in names.literals) theory.rules }
+        requires lowers { index.lowers ≡ map (λ t. flat_map (λ p. lower_step theory p t) theory.pairs) theory.rules }
+        requires uppers { index.uppers ≡ map (λ u. flat_map (λ p. upper_step theory p u) theory.pairs) theory.rules }
+        requires wide { length names.literals ≤ index.width }
+        requires frozen { frozen ≡ true → names.frozen ≡ true }
+        ensures theory { result.theory ≡ theory }
+        ensures names { result.names ≡ names.literals }
+        ensures pending { result.pending ≡ None }
+        ensures frozen { result.frozen ≡ frozen }
+    {
+        let _count = names.len();
+        let _facts = theory.facts_len();
+        Net {
+            theory,
+            names,
+            facts,
+            index,
+            next: None,
+            frozen,
+        }
+    }
+
+    /// The number of a literal; `None` exactly where it has none.
+    pub fn find(&self, literal: &Literal) -> Option<usize>
+        ensures number { result ≡ position (literal_eq literal.now) self.now.names }
+        ensures there { IfSome result (λ n. (n < length self.now.names) × (n ≡ number self.now literal.now)) }
+        ensures absent { IfNone result (¬ Contains self.now.names literal.now) }
+    {
+        self.names.find(literal)
+    }
+
+    /// How many literals have numbers.
+    pub fn names(&self) -> usize
+        ensures len { result ≡ length self.now.names }
+        ensures numbered { IsNumbered self.now }
+        ensures formed { IsWellFormed self.now.theory }
+    {
+        self.names.len()
+    }
+
+    /// The literal with this number.
+    pub fn literal(&self, number: usize) -> &Literal
+        requires { number < length self.now.names }
+        ensures { result.now ≡ literal_at self.now number }
+    {
+        match self.names.literal(number) {
+            Some(literal) => literal,
+            None => unreachable!(),
+        }
+    }
+
+    /// The number of the complement.
+    pub fn other(&self, number: usize) -> usize
+        requires { number < length self.now.names }
+        ensures other { result ≡ number_of_other self.now number }
+        ensures within { result < length self.now.names }
+    {
+        let _count = self.names.len();
+        other(number)
+    }
+
+    /// The number of the literal at a place among those that attack the literal; `None` exactly where there are not so many.
+    pub fn attacker(&self, number: usize, at: usize) -> Option<usize>
+        requires { number < length self.now.names }
+        ensures { result ≡ slice_get (attackers_row self.now (literal_at self.now number)) at }
+    {
+        if at == 0 {
+            Some(self.other(number))
+        } else {
+            None
+        }
+    }
+
+    /// Whether the literal with this number is a fact.
+    pub fn is_fact(&self, number: usize) -> bool
+        requires { number < length self.now.names }
+        ensures { result ≡ is_fact self.now number }
+    {
+        self.facts[number]
+    }
+
+    pub fn facts_len(&self) -> usize
+        ensures { result ≡ length self.now.theory.facts }
+    {
+        self.theory.facts_len()
+    }
+
+    pub fn rules_len(&self) -> usize
+        ensures { result ≡ length self.now.theory.rules }
+    {
+        self.theory.rules_len()
+    }
+
+    pub fn pairs_len(&self) -> usize
+        ensures { result ≡ length self.now.theory.pairs }
+    {
+        self.theory.pairs_len()
+    }
+
+    /// The fact at a place; `None` exactly past the end.
+    pub fn fact(&self, at: usize) -> Option<&Literal>
+        ensures { option_copied result ≡ slice_get self.now.theory.facts at }
+    {
+        self.theory.fact(at)
+    }
+
+    /// The rule at a place; `None` exactly past the end.
+    pub fn rule(&self, at: usize) -> Option<&Rule>
+        ensures { option_copied result ≡ slice_get self.now.theory.rules at }
+    {
+        self.theory.rule(at)
+    }
+
+    /// The pair at a place; `None` exactly past the end.
+    pub fn pair(&self, at: usize) -> Option<&Pair>
+        ensures { option_copied result ≡ slice_get self.now.theory.pairs at }
+    {
+        self.theory.pair(at)
+    }
+}

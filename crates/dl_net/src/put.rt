@@ -1,0 +1,133 @@
+//! One more rule, in room that is there.
+
+ghost use Rattle.std.specs.Prelude.{◌≡◌, ℕ, ◌+◌, ◌<◌, ◌≤◌, ◌^◌, max, [], ◌∷◌, ◌++◌, All, Some, length, vec_len, vec_capacity, OnOk, if◌then◌else◌, set};
+ghost use Rattle.dl_net.specs.Tables.{list_at, spare_at, KeepsLists};
+ghost use Rattle.dl_net.specs.Counting.{each_once};
+ghost use Rattle.dl_net.specs.Lines.{is_in, list_of, line_of, entry_at, IsWithin, IsKeptEntry};
+
+use crate::entry::Entry;
+use crate::rows::RowTable;
+use dl_base::Memory;
+
+/// The number goes last into the lists of a body's literals, once into each; tells into how many.
+pub(crate) fn put_uses(uses: &mut RowTable, body: &[u32], rule: u32) -> u32
+    requires room { All (λ b. 0 < spare_at uses.old b) body.now }
+    requires within { All (λ b. b < length uses.old.lists) body.now }
+    requires fresh { (n : ℕ) → All (λ s. s < rule) (list_at uses.old n) }
+    requires short { length body.now < 2 ^ 32 }
+    ensures lists { (n : ℕ) → list_at uses.new n ≡ list_at uses.old n ++ (if is_in body.now n then rule ∷ [] else []) }
+    ensures wide { length uses.new.lists ≡ length uses.old.lists }
+    ensures width { result ≡ length (each_once body.now) }
+{
+    let mut width = 0;
+    for number in body {
+        let number = *number as usize;
+        if !uses.ends_with(number, rule) {
+            uses.push(number, rule);
+            width += 1;
+        }
+    }
+    width
+}
+
+/// Room for one more number in the lists of a body's literals.
+pub(crate) fn reserve_uses(uses: &mut RowTable, body: &[u32]) -> Result<(), Memory>
+    requires { All (λ b. b < length uses.old.lists) body.now }
+    ensures kept { KeepsLists uses.old uses.new }
+    ensures same { length uses.new.lists ≡ length uses.old.lists }
+    ensures room { OnOk result (All (λ b. 0 < spare_at uses.new b) body.now) }
+{
+    for number in body {
+        uses.reserve(*number as usize)?;
+    }
+    Ok(())
+}
+
+/// Makes the table reach this many lists.
+pub(crate) fn widen(rows: &mut RowTable, names: usize) -> Result<(), Memory>
+    ensures kept { KeepsLists rows.old rows.new }
+    ensures wide { OnOk result (names ≤ length rows.new.lists) }
+    ensures most { length rows.new.lists ≤ max names (length rows.old.lists) }
+{
+    while rows.len() < names {
+        rows.grow()?;
+    }
+    Ok(())
+}
+
+/// Room for one more rule, and no other change.
+pub(crate) fn reserve_rule(
+    entries: &mut Vec<Option<Entry>>,
+    order: &mut Vec<u32>,
+    places: &mut Vec<u32>,
+    heads: &mut RowTable,
+    uses: &mut RowTable,
+    entry: &Entry,
+) -> Result<(), Memory>
+    requires head { entry.now.head < length heads.old.lists }
+    requires body { All (λ b. b < length uses.old.lists) entry.now.body.items }
+    ensures entries { entries.new.items ≡ entries.old.items }
+    ensures order { order.new.items ≡ order.old.items }
+    ensures places { places.new.items ≡ places.old.items }
+    ensures heads { KeepsLists heads.old heads.new }
+    ensures uses { KeepsLists uses.old uses.new }
+    ensures heads_same { length heads.new.lists ≡ length heads.old.lists }
+    ensures uses_same { length uses.new.lists ≡ length uses.old.lists }
+    ensures entries_room { OnOk result (vec_len entries.new < vec_capacity entries.new) }
+    ensures order_room { OnOk result (vec_len order.new < vec_capacity order.new) }
+    ensures places_room { OnOk result (vec_len places.new < vec_capacity places.new) }
+    ensures few { OnOk result (length entries.new.items < 2 ^ 32) }
+    ensures heads_room { OnOk result (0 < spare_at heads.new entry.now.head) }
+    ensures uses_room { OnOk result (All (λ b. 0 < spare_at uses.new b) entry.now.body.items) }
+{
+    if entries.len() > u32::MAX as usize {
+        return Err(Memory);
+    }
+    entries.reserve(1)?;
+    order.reserve(1)?;
+    places.reserve(1)?;
+    heads.reserve(entry.head as usize)?;
+    reserve_uses(uses, entry.body.as_slice())?;
+    Ok(())
+}
+
+/// The rule goes last, and into the list of its head and into those of its body's literals.
+pub(crate) fn put_rule(
+    entries: &mut Vec<Option<Entry>>,
+    order: &mut Vec<u32>,
+    places: &mut Vec<u32>,
+    heads: &mut RowTable,
+    uses: &mut RowTable,
+    entry: Entry,
+)
+    requires entries_room { vec_len entries.old < vec_capacity entries.old }
+    requires order_room { vec_len order.old < vec_capacity order.old }
+    requires places_room { vec_len places.old < vec_capacity places.old }
+    requires few { length entries.old.items < 2 ^ 32 }
+    requires fewer { length order.old.items ≤ length entries.old.items }
+    requires heads_room { 0 < spare_at heads.old entry.head }
+    requires uses_room { All (λ b. 0 < spare_at uses.old b) entry.body.items }
+    requires within { All (λ b. b < length uses.old.lists) entry.body.items }
+    requires fresh { (n : ℕ) → All (λ s. s < length entries.old.items) (list_at uses.old n) }
+    requires short { length entry.body.items < 2 ^ 32 }
+    ensures entries { entries.new.items ≡ entries.old.items ++ Some (record entry { width = length (each_once entry.body.items) }) ∷ [] }
+    ensures order { order.new.items ≡ order.old.items ++ length entries.old.items ∷ [] }
+    ensures places { places.new.items ≡ places.old.items ++ length order.old.items ∷ [] }
+    ensures heads { heads.new.lists ≡ set heads.old.lists entry.head (list_at heads.old entry.head ++ length entries.old.items ∷ []) }
+    ensures uses { (n : ℕ) → list_at uses.new n ≡ list_at uses.old n ++ (if is_in entry.body.items n then length entries.old.items ∷ [] else []) }
+    ensures uses_same { length uses.new.lists ≡ length uses.old.lists }
+{
+    let rule = entries.len() as u32;
+    let place = order.len() as u32;
+    heads.push(entry.head as usize, rule);
+    let width = put_uses(uses, entry.body.as_slice(), rule);
+    let entry = Entry {
+        kind: entry.kind,
+        head: entry.head,
+        body: entry.body,
+        width,
+    };
+    entries.push_reserved(Some(entry));
+    order.push_reserved(rule);
+    places.push_reserved(place);
+}

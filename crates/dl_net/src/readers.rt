@@ -1,0 +1,199 @@
+//! Rules of a net by number.
+
+ghost use Rattle.std.specs.Prelude.{◌≡◌, ◌<◌, ◌≤◌, ◌^◌, ◌↔◌, IsTrue, IsSome, Some, true, length, map, slice_get, option_to_list};
+ghost use Rattle.dl_theory.specs.Lists.{can_support, Beats, IsAbove};
+ghost use Rattle.dl_theory.specs.Listings.{Mentions, Occurs};
+ghost use Rattle.dl_net.specs.Numbers.{number, rule_at, literal_at, body_row, backs_row, proves_row, opposes_row, lowers_row, uppers_row, defends_row};
+ghost use Rattle.dl_net.specs.Rows.{row, places};
+ghost use Rattle.dl_net.specs.Named.{head_row, concluded_row};
+
+use crate::load::other;
+use crate::net::Net;
+use dl_lit::Name;
+
+impl Net {
+    /// The at-th rule, in list order, with this head; `None` exactly where there are not so many.
+    pub fn heads(&self, number: usize, at: usize) -> Option<usize>
+        ensures { result ≡ slice_get (places (head_row self.now) self.now.theory.rules number) at }
+    {
+        self.index.heads_at(number, at)
+    }
+
+    /// The at-th rule, in list order, with this literal in its body; `None` exactly where there are not so many.
+    pub fn uses(&self, number: usize, at: usize) -> Option<usize>
+        ensures { result ≡ slice_get (places (body_row self.now) self.now.theory.rules number) at }
+    {
+        self.index.uses_at(number, at)
+    }
+
+    /// The number of a rule's head.
+    pub fn head(&self, rule: usize) -> usize
+        requires { rule < length self.now.theory.rules }
+        ensures value { result ≡ number self.now (rule_at self.now rule).head }
+        ensures within { result < length self.now.names }
+    {
+        self.index.head(rule)
+    }
+
+    /// The number of the literal at a place of a rule's body; `None` exactly past the end.
+    pub fn body(&self, rule: usize, at: usize) -> Option<usize>
+        requires { rule < length self.now.theory.rules }
+        ensures { result ≡ slice_get (map (number self.now) (rule_at self.now rule).body) at }
+    {
+        self.index.body(rule, at)
+    }
+
+    /// Whether the rule at one place is superior to the rule at another.
+    pub fn beats(&self, upper: usize, lower: usize) -> bool
+        requires upper { upper < length self.now.theory.rules }
+        requires lower { lower < length self.now.theory.rules }
+        ensures { IsTrue result ↔ Beats self.now.theory (rule_at self.now upper) (rule_at self.now lower) }
+    {
+        match self.rule(upper) {
+            None => unreachable!(),
+            Some(above) => match self.rule(lower) {
+                None => unreachable!(),
+                Some(below) => self.is_above(&above.label, &below.label),
+            },
+        }
+    }
+
+    /// Whether the pair of two labels is in the list.
+    fn is_above(&self, upper: &Name, lower: &Name) -> bool
+        ensures { IsTrue result ↔ IsAbove self.now.theory.pairs upper.now lower.now }
+    {
+        self.theory.is_above(upper, lower)
+    }
+
+    /// Whether the literal with this number is one of the theory: it or its complement is a fact, a head or in a body.
+    pub fn lives(&self, number: usize) -> bool
+        requires { number < length self.now.names }
+        ensures { IsTrue result ↔ Mentions self.now.theory (literal_at self.now number) }
+    {
+        let _count = self.names();
+        if self.occurs(number) {
+            return true;
+        }
+        self.occurs(self.other(number))
+    }
+
+    /// Whether the literal with this number is a fact, a head or in a body.
+    fn occurs(&self, number: usize) -> bool
+        requires { number < length self.now.names }
+        ensures { IsTrue result ↔ Occurs self.now.theory (literal_at self.now number) }
+    {
+        let _count = self.names();
+        if self.is_fact(number) {
+            return true;
+        }
+        if self.heads_len(number) > 0 {
+            return true;
+        }
+        if self.uses_len(number) > 0 {
+            return true;
+        }
+        false
+    }
+
+    pub(crate) fn uses_len(&self, number: usize) -> usize
+        ensures { result ≡ length (places (body_row self.now) self.now.theory.rules number) }
+    {
+        self.index.uses_len(number)
+    }
+
+    pub(crate) fn heads_len(&self, number: usize) -> usize
+        ensures value { result ≡ length (places (head_row self.now) self.now.theory.rules number) }
+        ensures few { result < 2 ^ 32 }
+    {
+        self.index.heads_len(number)
+    }
+
+    /// The number of the head of a rule that is strict, or else can support it.
+    pub(crate) fn concluded(&self, rule: usize, strict: bool) -> Option<usize>
+        ensures { option_to_list result ≡ row (concluded_row self.now strict) self.now.theory.rules rule }
+    {
+        self.index.concluded(rule, strict)
+    }
+
+    /// The number of what a rule's head attacks.
+    pub(crate) fn opposed(&self, rule: usize) -> Option<usize>
+        ensures { option_to_list result ≡ row (opposes_row self.now) self.now.theory.rules rule }
+    {
+        let _count = self.names();
+        if rule >= self.rules_len() {
+            return None;
+        }
+        Some(self.other(self.head(rule)))
+    }
+
+    /// Whether a rule is there and can support its head.
+    pub(crate) fn supports(&self, rule: usize) -> bool
+        ensures { result ≡ can_support (rule_at self.now rule).kind }
+    {
+        self.index.supports(rule)
+    }
+
+    pub(crate) fn lower_at(&self, rule: usize, at: usize) -> Option<usize>
+        ensures { result ≡ slice_get (row (lowers_row self.now) self.now.theory.rules rule) at }
+    {
+        self.index.lower_at(rule, at)
+    }
+
+    pub(crate) fn lower_len(&self, rule: usize) -> usize
+        ensures { result ≡ length (row (lowers_row self.now) self.now.theory.rules rule) }
+    {
+        self.index.lower_len(rule)
+    }
+
+    /// How many rules a rule defends its head against.
+    pub(crate) fn defended_len(&self, rule: usize) -> usize
+        ensures { result ≡ length (row (defends_row self.now) self.now.theory.rules rule) }
+    {
+        if self.supports(rule) {
+            self.lower_len(rule)
+        } else {
+            0
+        }
+    }
+
+    pub(crate) fn body_width(&self, rule: usize) -> usize
+        ensures width { result ≡ length (row (body_row self.now) self.now.theory.rules rule) }
+        ensures few { result < 2 ^ 32 }
+    {
+        self.index.width(rule)
+    }
+
+    /// How many rules with this head are strict, or else can support it.
+    pub(crate) fn concluders_len(&self, number: usize, strict: bool) -> usize
+        ensures value { result ≡ length (places (concluded_row self.now strict) self.now.theory.rules number) }
+        ensures few { result < 2 ^ 32 }
+    {
+        self.index.heads_count(number, strict)
+    }
+
+    /// How many rules have a head that attacks the literal.
+    pub(crate) fn opposers_len(&self, number: usize) -> usize
+        ensures value { result ≡ length (places (opposes_row self.now) self.now.theory.rules number) }
+        ensures few { result < 2 ^ 32 }
+    {
+        if number >= self.names() {
+            return 0;
+        }
+        self.heads_len(self.other(number))
+    }
+
+    pub(crate) fn upper_len(&self, rule: usize) -> usize
+        ensures value { result ≡ length (row (uppers_row self.now (λ _. true)) self.now.theory.rules rule) }
+        ensures few { result < 2 ^ 32 }
+    {
+        self.index.upper_len(rule)
+    }
+
+    /// How many rules defend their heads against this one.
+    pub(crate) fn defenders_len(&self, rule: usize) -> usize
+        ensures value { result ≡ length (row (uppers_row self.now (λ t. can_support t.kind)) self.now.theory.rules rule) }
+        ensures few { result < 2 ^ 32 }
+    {
+        self.index.upper_count(rule)
+    }
+}

@@ -1,0 +1,131 @@
+//! Lists of numbers by number.
+
+ghost use Rattle.std.specs.Prelude.{◌≡◌, ℕ, ◌+◌, ◌-◌, ◌<◌, ◌≤◌, ◌≢◌, [], ◌∷◌, ◌++◌, OnOk, OnErr, length, not, ◌==◌, filter, slice_get, set};
+ghost use Rattle.dl_net.specs.Tables.{no_table, list_at, spare_at, KeepsLists, ends_with};
+
+use dl_base::Memory;
+use std::alloc::Global;
+use std::marker::Model;
+
+/// A list of numbers at each number.
+#[derive(Drop)]
+pub(crate) struct RowTable {
+    rows: Vec<Vec<u32>>,
+}
+
+impl Model for RowTable {
+    ghost use Rattle.dl_net.specs.Tables.{Table};
+
+    ghost Value = { Table };
+
+    ghost use Rattle.dl_net.specs.TablesView.{table_of};
+
+    ghost view = { table_of };
+}
+
+impl RowTable {
+    pub fn make(alloc: Global) -> RowTable
+        ensures { result ≡ no_table }
+    {
+        RowTable {
+            rows: Vec::new(alloc),
+        }
+    }
+
+    /// One more list, which is empty.
+    pub fn grow(&mut self) -> Result<(), Memory>
+        ensures kept { KeepsLists self.old self.new }
+        ensures grown { OnOk result (length self.new.lists ≡ length self.old.lists + 1) }
+        ensures err { OnErr result (self.new ≡ self.old) }
+    {
+        let row = Vec::new(*self.rows.allocator());
+        self.rows.push(row)?;
+        Ok(())
+    }
+
+    /// Room for one more number in a list.
+    pub fn reserve(&mut self, number: usize) -> Result<(), Memory>
+        requires { number < length self.old.lists }
+        ensures kept { KeepsLists self.old self.new }
+        ensures same { length self.new.lists ≡ length self.old.lists }
+        ensures room { OnOk result (0 < spare_at self.new number) }
+    {
+        let row = &mut self.rows[number];
+        row.reserve(1)?;
+        Ok(())
+    }
+
+    /// A number at the end of a list, in room that is there.
+    pub fn push(&mut self, number: usize, item: u32)
+        requires { 0 < spare_at self.old number }
+        ensures lists { self.new.lists ≡ set self.old.lists number (list_at self.old number ++ item ∷ []) }
+        ensures room { (n : ℕ) → n ≢ number → spare_at self.new n ≡ spare_at self.old n }
+    {
+        let row = &mut self.rows[number];
+        row.push_reserved(item);
+    }
+
+    /// Takes a number out of a list.
+    pub fn remove(&mut self, number: usize, item: u32)
+        requires { number < length self.old.lists }
+        ensures lists { self.new.lists ≡ set self.old.lists number (filter (λ x. not (x == item)) (list_at self.old number)) }
+    {
+        let row = &mut self.rows[number];
+        row.retain(|x| *x != item);
+    }
+
+    pub fn len(&self) -> usize
+        ensures { result ≡ length self.now.lists }
+    {
+        self.rows.len()
+    }
+
+    /// The numbers of a list.
+    pub fn row(&self, number: usize) -> &[u32]
+        ensures { result.now ≡ list_at self.now number }
+    {
+        match self.rows.get(number) {
+            None => &[],
+            Some(row) => row.as_slice(),
+        }
+    }
+
+    /// How many numbers a list has.
+    pub fn count(&self, number: usize) -> usize
+        ensures { result ≡ length (list_at self.now number) }
+    {
+        match self.rows.get(number) {
+            None => 0,
+            Some(row) => row.len(),
+        }
+    }
+
+    /// The number at a place of a list.
+    pub fn get(&self, number: usize, at: usize) -> Option<u32>
+        ensures { result ≡ slice_get (list_at self.now number) at }
+    {
+        match self.rows.get(number) {
+            None => None,
+            Some(row) => row.get(at).copied(),
+        }
+    }
+
+    /// Whether this is the last number of a list.
+    pub fn ends_with(&self, number: usize, item: u32) -> bool
+        ensures { result ≡ ends_with (list_at self.now number) item }
+    {
+        match self.rows.get(number) {
+            None => false,
+            Some(row) => ends_with(row.as_slice(), item),
+        }
+    }
+}
+
+fn ends_with(row: &[u32], item: u32) -> bool
+    ensures { result ≡ ends_with row.now item }
+{
+    match row.last() {
+        None => false,
+        Some(last) => *last == item,
+    }
+}
