@@ -1,0 +1,5 @@
+pub mod Words
+mod Statements
+mod Edits
+pub mod Entries
+pub mod Runs
