@@ -1,0 +1,10 @@
+pub mod Counting
+pub mod Counters
+pub mod Wires
+pub mod Gates
+pub mod Prepared
+pub mod Runs
+pub mod Rivals
+pub mod Meanings
+pub mod Before
+pub mod Filled

@@ -1,0 +1,26 @@
+-- The run of a queue: each node in turn passes on its hits.
+use Rattle.std.specs.Prelude.{ℕ, ◌+◌, ◌<◌, ◌≤◌, List, length, slice_index}
+use Rattle.std.specs.List.{fold}
+use Rattle.dl_net.specs.Counting.{times}
+use Rattle.dl_fill.specs.Counters.{CounterLists, hit}
+use Rattle.dl_fill.specs.declared.wire.Gate.{Gate}
+use Rattle.dl_fill.specs.Prepared.{IsBegun}
+
+-- the first `head` nodes of the queue have fired since w
+pub data Fires (edges : ℕ → List ℕ) (w : CounterLists) : ℕ → CounterLists → Type 0 where
+  begins : Fires edges w 0 w
+  goes : (head : ℕ) (v : CounterLists) → Fires edges w head v → head < length v.queue
+      → Fires edges w (head + 1) (fold hit v (edges (slice_index v.queue head)))
+
+-- all have
+pub record IsRunOut (edges : ℕ → List ℕ) (w v : CounterLists) : Type 0 where
+  pub head : ℕ
+  pub fires : Fires edges w head v
+  pub ends : length v.queue ≤ head
+
+-- the counters after a run, from the start that gates and inputs say, of nodes that lead inside
+pub record HasRun (edges inputs : ℕ → List ℕ) (gate : ℕ → Gate) (w : CounterLists) : Type 0 where
+  pub middle : CounterLists
+  pub begun : IsBegun inputs gate (length middle.need) middle
+  pub inside : (x y : ℕ) → x < length middle.need → 0 < times y (edges x) → y < length middle.need
+  pub out : IsRunOut edges middle w

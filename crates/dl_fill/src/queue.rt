@@ -1,0 +1,53 @@
+//! The run of the queue.
+
+ghost use Rattle.std.specs.Prelude.{◌≡◌, ℕ, ◌+◌, ◌*◌, ◌<◌, ◌≤◌, length};
+ghost use Rattle.std.specs.List.{fold};
+ghost use Rattle.dl_net.specs.Numbers.{next};
+ghost use Rattle.dl_net.specs.Counting.{times};
+ghost use Rattle.dl_fill.specs.Counters.{hit};
+ghost use Rattle.dl_fill.specs.Wires.{edges, through};
+ghost use Rattle.dl_fill.specs.Runs.{IsRunOut};
+
+use crate::counters::Counters;
+use crate::wire::Wire;
+use dl_net::{Link, Net};
+
+/// One hit for each number to which the link leads.
+fn send(net: &Net, width: usize, link: Link, from: usize, to: usize, counters: &mut Counters)
+    requires { (y : ℕ) → 0 < times y (through width to (next net.now link from)) → y < length counters.old.need }
+    ensures { counters.new ≡ fold hit counters.old (through width to (next net.now link from)) }
+{
+    let _size = counters.size();
+    for at in 0..net.next_len(link, from) {
+        let place = net.next(link, from, at);
+        counters.hit(place * width + to);
+    }
+}
+
+/// The hits of a node that has fired.
+fn fire(net: &Net, width: usize, wires: &[Wire], node: usize, counters: &mut Counters)
+    requires width { 0 < width }
+    requires inside { (y : ℕ) → 0 < times y (edges net.now width wires.now node) → y < length counters.old.need }
+    ensures { counters.new ≡ fold hit counters.old (edges net.now width wires.now node) }
+{
+    for w in wires {
+        if w.from == node % width {
+            send(net, width, w.link, node / width, w.to, counters);
+        }
+    }
+}
+
+/// Fires the nodes of the queue until no more come.
+pub fn run(net: &Net, width: usize, wires: &[Wire], counters: &mut Counters)
+    requires width { 0 < width }
+    requires inside { (x y : ℕ) → x < length counters.old.need → 0 < times y (edges net.now width wires.now x) → y < length counters.old.need }
+    requires queued { (x : ℕ) → 0 < times x counters.old.queue → x < length counters.old.need }
+    ensures { IsRunOut (edges net.now width wires.now) counters.old counters.new }
+{
+    let mut head = 0;
+    while head < counters.len() {
+        let node = counters.at(head);
+        fire(net, width, wires, node, counters);
+        head += 1;
+    }
+}

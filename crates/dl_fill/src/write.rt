@@ -1,0 +1,86 @@
+//! Marks of nodes that have fired.
+
+ghost use Rattle.std.specs.Prelude.{◌≡◌, ◌⊎◌, ℕ, ◌<◌, ◌≤◌, ◌+◌, ◌*◌, true, false, Bool, IsTrue, All, length};
+ghost use Rattle.dl_lit.specs.declared.literal.Tag.{Tag};
+ghost use Rattle.dl_net.specs.Counting.{times};
+ghost use Rattle.dl_marks.specs.Marks.{places, marked, is_owned};
+ghost use Rattle.dl_fill.specs.Before.{tag_of};
+ghost use Rattle.dl_fill.specs.Filled.{IsWritten, IsFamilyWritten, HasFired, either_kind};
+
+use crate::counters::Counters;
+use dl_lit::{Family, Tag};
+use dl_marks::{Marks, Steps};
+use dl_net::Region;
+use std::sync::ledger::Ledger;
+
+/// Sets the mark if the node has fired.
+fn write_one<L: Ledger>(
+    counters: &Counters,
+    node: usize,
+    tag: Tag,
+    marks: &mut Marks,
+    number: usize,
+    steps: &mut Steps<L>,
+)
+    requires node { node < length counters.now.need }
+    requires owned { IsTrue (is_owned marks.old number) }
+    ensures set { 0 < times node counters.now.queue → marked marks.new tag number ≡ true }
+    ensures kept { (t : Tag) (n : ℕ) → (marked marks.new t n ≡ marked marks.old t n) ⊎ ((t ≡ tag) × (n ≡ number) × (0 < times node counters.now.queue) × (marked marks.new t n ≡ true)) }
+    ensures places { places marks.new ≡ places marks.old }
+    ensures owned { (n : ℕ) → is_owned marks.new n ≡ is_owned marks.old n }
+    ensures steps { steps.new ≤ steps.old + 1 }
+{
+    if counters.has(node) {
+        marks.set(tag, number, steps);
+    }
+}
+
+/// Sets the marks of a tag in the region whose nodes have fired.
+fn write<L: Ledger>(
+    counters: &Counters,
+    width: usize,
+    kind: usize,
+    tag: Tag,
+    marks: &mut Marks,
+    region: &Region,
+    steps: &mut Steps<L>,
+)
+    requires nodes { All (λ q. q * width + kind < length counters.now.need) region.now.members }
+    requires owned { All (λ q. IsTrue (is_owned marks.old q)) region.now.members }
+    ensures written { IsWritten width kind counters.now tag region.now.members marks.old marks.new }
+    ensures steps { steps.new ≤ steps.old + length region.now.members }
+{
+    let _size = counters.size();
+    for place in 0..region.len() {
+        if let Some(q) = region.at(place) {
+            write_one(counters, q * width + kind, tag, marks, q, steps);
+        }
+    }
+}
+
+/// Sets the marks of a family in the region whose nodes have fired.
+pub fn write_family<L: Ledger>(
+    counters: &Counters,
+    width: usize,
+    for_plus: usize,
+    for_minus: usize,
+    family: Family,
+    marks: &mut Marks,
+    region: &Region,
+    steps: &mut Steps<L>,
+)
+    requires for_plus { All (λ q. q * width + for_plus < length counters.now.need) region.now.members }
+    requires for_minus { All (λ q. q * width + for_minus < length counters.now.need) region.now.members }
+    requires owned { All (λ q. IsTrue (is_owned marks.old q)) region.now.members }
+    requires absent { (plus : Bool) → All (λ q. marked marks.old (tag_of plus family) q ≡ false) region.now.members }
+    ensures written { IsFamilyWritten (HasFired width (either_kind for_plus for_minus) counters.now) family region.now.members marks.old marks.new }
+    ensures steps { steps.new ≤ steps.old + 2 * length region.now.members }
+{
+    let plus = Tag { plus: true, family };
+    write(counters, width, for_plus, plus, marks, region, steps);
+    let minus = Tag {
+        plus: false,
+        family,
+    };
+    write(counters, width, for_minus, minus, marks, region, steps);
+}

@@ -1,0 +1,3 @@
+pub mod Countered
+pub mod Propagation
+pub mod Both

@@ -1,0 +1,78 @@
+-- The families propagating and support together: their wires and gates.
+use Rattle.std.specs.Prelude.{◌≡◌, ◌⊎◌, ℕ, zero, suc, true, false, cond, List, [], ◌∷◌, length, nat_lt}
+use Rattle.dl_lit.specs.declared.literal.Family.{Family}
+use Rattle.dl_lit.specs.declared.literal.Family.TheVariants.{Definite, Propagating, Support}
+use Rattle.dl_net.specs.Numbers.{NetLists}
+use Rattle.dl_net.specs.declared.link.Link.TheVariants.{Same, Uses, Backs, Opposes, Defends, Counters}
+use Rattle.dl_fill.specs.declared.wire.Wire.{Wire}
+use Rattle.dl_fill.specs.declared.wire.Gate.{Gate}
+use Rattle.dl_fill.specs.declared.wire.Gate.TheVariants.{Every, Either, Never}
+use Rattle.dl_fill.specs.Before.{Before, tag_of, attack_fails, attack_holds, plus_gate, minus_gate, some_gate, each_gate}
+
+-- the two families, each of which looks at the other
+abbrev pub IsOfPair : Family → Type 0
+IsOfPair f = (f ≡ Propagating) ⊎ (f ≡ Support)
+
+-- kinds of a literal: 0 concluded, 1 refuted, 2 supported, 3 unsupported in propagating; 4 concluded, 5 refuted in support.
+-- Kinds of a rule: 6 on, 7 off, 8 answered, 9 on and unanswered in propagating, where attackers are judged by support;
+-- 10 on, 11 off, 12 on and not countered, 13 off or countered in support, where a rule is countered by one that beats it and is
+-- on in propagating
+abbrev pub propagation_wires : List Wire
+propagation_wires =
+    record { from = 0; link = Uses; to = 6 }
+    ∷ record { from = 1; link = Uses; to = 7 }
+    ∷ record { from = 6; link = Backs; to = 2 }
+    ∷ record { from = 7; link = Backs; to = 3 }
+    ∷ record { from = 11; link = Same; to = 8 }
+    ∷ record { from = 6; link = Defends; to = 8 }
+    ∷ record { from = 10; link = Same; to = 9 }
+    ∷ record { from = 7; link = Defends; to = 9 }
+    ∷ record { from = 2; link = Same; to = 0 }
+    ∷ record { from = 8; link = Opposes; to = 0 }
+    ∷ record { from = 3; link = Same; to = 1 }
+    ∷ record { from = 9; link = Opposes; to = 1 }
+    ∷ record { from = 4; link = Uses; to = 10 }
+    ∷ record { from = 5; link = Uses; to = 11 }
+    ∷ record { from = 10; link = Same; to = 12 }
+    ∷ record { from = 7; link = Counters; to = 12 }
+    ∷ record { from = 11; link = Same; to = 13 }
+    ∷ record { from = 6; link = Counters; to = 13 }
+    ∷ record { from = 12; link = Backs; to = 4 }
+    ∷ record { from = 13; link = Backs; to = 5 }
+    ∷ []
+
+-- the gate of a literal's node, by its kind
+abbrev pub literal_gate : NetLists → Before → ℕ → ℕ → Gate
+literal_gate N b zero q =
+    plus_gate (b.inside q) (b.marked (tag_of true Definite) q) (attack_fails N b.marked q) (b.marked (tag_of true Propagating) q)
+literal_gate N b (suc zero) q =
+    minus_gate (b.inside q) (b.marked (tag_of false Definite) q) (attack_holds N b.marked q) (b.marked (tag_of false Propagating) q)
+literal_gate N b (suc (suc zero)) q = Either
+literal_gate N b (suc (suc (suc zero))) q = Every
+literal_gate N b (suc (suc (suc (suc zero)))) q =
+    some_gate (b.inside q) (b.marked (tag_of true Definite) q) (b.marked (tag_of true Support) q)
+literal_gate N b (suc (suc (suc (suc (suc zero))))) q =
+    each_gate (b.inside q) (b.marked (tag_of false Definite) q) (b.marked (tag_of false Support) q)
+literal_gate N b (suc (suc (suc (suc (suc (suc _)))))) q = Never
+
+-- the gate of a rule's node, by its kind less 6
+abbrev pub rule_gate : ℕ → Gate
+rule_gate zero = Every
+rule_gate (suc zero) = Either
+rule_gate (suc (suc zero)) = Either
+rule_gate (suc (suc (suc zero))) = Every
+rule_gate (suc (suc (suc (suc zero)))) = Every
+rule_gate (suc (suc (suc (suc (suc zero))))) = Either
+rule_gate (suc (suc (suc (suc (suc (suc zero)))))) = Every
+rule_gate (suc (suc (suc (suc (suc (suc (suc zero))))))) = Either
+rule_gate (suc (suc (suc (suc (suc (suc (suc (suc _)))))))) = Never
+
+-- the gate of a node, by its kind and place
+abbrev pub propagation_gate : NetLists → Before → ℕ → ℕ → Gate
+propagation_gate N b zero q = cond (nat_lt q (length N.names)) (literal_gate N b 0 q) Never
+propagation_gate N b (suc zero) q = cond (nat_lt q (length N.names)) (literal_gate N b 1 q) Never
+propagation_gate N b (suc (suc zero)) q = cond (nat_lt q (length N.names)) (literal_gate N b 2 q) Never
+propagation_gate N b (suc (suc (suc zero))) q = cond (nat_lt q (length N.names)) (literal_gate N b 3 q) Never
+propagation_gate N b (suc (suc (suc (suc zero)))) q = cond (nat_lt q (length N.names)) (literal_gate N b 4 q) Never
+propagation_gate N b (suc (suc (suc (suc (suc zero))))) q = cond (nat_lt q (length N.names)) (literal_gate N b 5 q) Never
+propagation_gate N b (suc (suc (suc (suc (suc (suc k)))))) r = cond (nat_lt r (length N.theory.rules)) (rule_gate k) Never

@@ -1,0 +1,111 @@
+//! Marks of all that follows in a net's theory.
+
+ghost use Rattle.std.specs.Prelude.{◌≡◌, ◌≤◌, IfOk, OnOk, length};
+ghost use Rattle.dl_lit.specs.declared.literal.Family.TheVariants as family;
+ghost use Rattle.dl_theory.specs.Marks.{AreRight};
+ghost use Rattle.dl_marks.specs.Marks.{places};
+ghost use Rattle.dl_fill.specs.Filled.{IsReady, IsFilled, IsRight, stands};
+ghost use Rattle.dl_prop.specs.Propagation.{IsOfPair};
+ghost use Rattle.dl_update.specs.Unmarked.{IsWhole};
+
+use crate::unmarked::{everywhere, no_marks};
+use dl_base::Memory;
+use dl_block::{BlockWork, fill_block};
+use dl_definite::{DefiniteWork, fill_definite};
+use dl_lit::Family;
+use dl_marks::{Marks, Steps};
+use dl_net::{Net, Region};
+use dl_prop::{PropWork, fill_prop};
+use std::alloc::Global;
+use std::sync::ledger::Ledger;
+
+/// Marks that are right in the definite family, and of which no other stands.
+fn begun<L: Ledger>(
+    alloc: Global,
+    net: &Net,
+    region: &Region,
+    steps: &mut Steps<L>,
+) -> Result<Marks, Memory>
+    requires { IsWhole net.now region.now }
+    ensures room { IfOk result (λ marks. length net.now.names ≤ places marks) }
+    ensures right { IfOk result (λ marks. IsRight net.now marks family.Definite) }
+    ensures ready { IfOk result (λ marks. IsReady net.now (λ f. ¬ (f ≡ family.Definite)) marks region.now) }
+{
+    let names = net.names();
+    let _members = region.len();
+    let mut marks = no_marks(alloc, names, steps)?;
+    let mut work = DefiniteWork::make(alloc);
+    work.reserve(net.rules_len(), names)?;
+    fill_definite(net, &mut marks, region, &mut work, steps);
+    Ok(marks)
+}
+
+/// Sets the marks of the blocking family.
+fn fill_blocking<L: Ledger>(
+    alloc: Global,
+    net: &Net,
+    region: &Region,
+    marks: &mut Marks,
+    steps: &mut Steps<L>,
+) -> Result<(), Memory>
+    requires definite { IsRight net.now marks.old family.Definite }
+    requires ready { IsReady net.now (λ f. f ≡ family.Blocking) marks.old region.now }
+    ensures { OnOk result (IsFilled net.now (λ f. f ≡ family.Blocking) marks.old marks.new) }
+{
+    let mut work = BlockWork::make(alloc);
+    work.reserve(net.rules_len(), net.names())?;
+    fill_block(net, marks, region, &mut work, steps);
+    Ok(())
+}
+
+/// Sets the marks of the families propagating and support.
+fn fill_pair<L: Ledger>(
+    alloc: Global,
+    net: &Net,
+    region: &Region,
+    marks: &mut Marks,
+    steps: &mut Steps<L>,
+) -> Result<(), Memory>
+    requires definite { IsRight net.now marks.old family.Definite }
+    requires ready { IsReady net.now IsOfPair marks.old region.now }
+    ensures { OnOk result (IsFilled net.now IsOfPair marks.old marks.new) }
+{
+    let mut work = PropWork::make(alloc);
+    work.reserve(net.rules_len(), net.names())?;
+    fill_prop(net, marks, region, &mut work, steps);
+    Ok(())
+}
+
+/// Marks that are right in a family, with a place for each name. Only the families that it needs are filled. `Memory`
+/// where there is none for the marks or for the fills.
+pub fn family_marks<L: Ledger>(
+    alloc: Global,
+    net: &Net,
+    family: Family,
+    steps: &mut Steps<L>,
+) -> Result<Marks, Memory>
+    ensures room { IfOk result (λ marks. length net.now.names ≤ places marks) }
+    ensures right { IfOk result (λ marks. IsRight net.now marks family) }
+{
+    let region = everywhere(alloc, net.names())?;
+    let mut marks = begun(alloc, net, &region, steps)?;
+    match family {
+        Family::Definite => {}
+        Family::Blocking => fill_blocking(alloc, net, &region, &mut marks, steps)?,
+        Family::Propagating => fill_pair(alloc, net, &region, &mut marks, steps)?,
+        Family::Support => fill_pair(alloc, net, &region, &mut marks, steps)?,
+    }
+    Ok(marks)
+}
+
+/// Marks that are right in all families, with a place for each name. `Memory` where there is none for the marks or for
+/// the fills.
+pub fn all_marks<L: Ledger>(alloc: Global, net: &Net, steps: &mut Steps<L>) -> Result<Marks, Memory>
+    ensures { IfOk result (λ marks. AreRight net.now.theory net.now.names (places marks) (stands marks)) }
+{
+    let region = everywhere(alloc, net.names())?;
+    let mut marks = begun(alloc, net, &region, steps)?;
+    fill_blocking(alloc, net, &region, &mut marks, steps)?;
+    fill_pair(alloc, net, &region, &mut marks, steps)?;
+    Ok(marks)
+}
