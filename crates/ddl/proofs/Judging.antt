@@ -1,5 +1,5 @@
 -- What a checker answers is what is said of the certificate.
-use Rattle.std.proofs.Common.{◌≡◌, List, refl}
+use Rattle.std.proofs.Common.{List}
 use Rattle.std.specs.Prelude.{Result, Ok, Err}
 use Rattle.dl_lit.specs.declared.literal.Tagged.{Tagged}
 use Rattle.dl_theory.specs.declared.answer.Certificate.TheVariants.{Derivation, Gap}

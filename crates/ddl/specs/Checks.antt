@@ -1,5 +1,5 @@
 -- What the program says of a certificate.
-use Rattle.std.specs.Prelude.{◌≡◌, ◌≢◌, ◌⊎◌, ℕ, ◌+◌, ◌<◌, ◌≤◌, List, [], ◌∷◌, ◌++◌, length, codes, decimal, Result, Ok, Err}
+use Rattle.std.specs.Prelude.{◌≡◌, ◌≢◌, ◌⊎◌, ℕ, ◌+◌, List, [], ◌∷◌, ◌++◌, codes, decimal, Result, Ok, Err}
 use Rattle.dl_theory.specs.declared.answer.Certificate.{Certificate}
 use Rattle.dl_theory.specs.declared.answer.Certificate.TheVariants.{Derivation, Gap}
 use Rattle.dl_theory.specs.Lists.{TheoryLists}
@@ -12,7 +12,6 @@ use Rattle.dl_check.specs.Flaws.{IsDerivationFlaw, IsGapFlaw}
 use Rattle.dl_check.specs.Certificates.{certificate_lines, IsCertificate, IsFirstBadLine}
 use Rattle.ddl.specs.declared.check.Checked.{Checked}
 use Rattle.ddl.specs.declared.check.Checked.TheVariants.{Accepted, Rejected}
-use Rattle.ddl.specs.Theories.{limit}
 
 -- the line of a flaw: the first member stands on line 2
 abbrev pub flaw_line : Flaw → ℕ

@@ -1,18 +1,12 @@
 -- The conclusions of a theory in a family, and their lines.
 use Rattle.std.specs.Prelude.{ℕ, List, [], ◌∷◌, ◌++◌, All, map}
 use Rattle.std.specs.List.{flat_map}
-use Rattle.dl_lit.specs.declared.literal.Literal.{Literal}
 use Rattle.dl_lit.specs.declared.literal.Family.{Family}
-use Rattle.dl_lit.specs.Literal.{complement}
 use Rattle.dl_theory.specs.Lists.{TheoryLists}
 use Rattle.dl_theory.specs.Listings.{AreLiterals}
 use Rattle.dl_theory.specs.Verdicts.{IsVerdict}
 use Rattle.dl_print.specs.Conclusion.{conclusion_text}
 use Rattle.ddl.specs.declared.conclusion.Conclusion.{Conclusion}
-
--- a literal and its complement
-abbrev pub both : Literal → List Literal
-both q = q ∷ complement q ∷ []
 
 -- each literal that the theory mentions, in order, with its verdict
 pub record AreConclusions (T : TheoryLists) (f : Family) (cs : List Conclusion) : Type 0 where

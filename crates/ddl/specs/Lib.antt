@@ -1,5 +1,6 @@
 pub mod Words
 pub mod Whole
+pub mod Statuses
 pub mod Theories
 pub mod Checks
 pub mod Conclusions

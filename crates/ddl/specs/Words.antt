@@ -3,7 +3,7 @@ use Rattle.std.specs.Prelude.{ℕ, List, [], ◌∷◌, Option, None, Some, if�
 use Rattle.std.specs.Option.{option_map}
 use Rattle.std.specs.Str.{bytes_eq}
 use Rattle.dl_lit.specs.declared.literal.Family.{Family}
-use Rattle.dl_lit.specs.declared.literal.Family.TheVariants.{Definite}
+use Rattle.dl_lit.specs.declared.literal.Family.TheVariants.{Definite, Blocking, Propagating, Support}
 use Rattle.ddl.specs.declared.words.Command.{Command}
 use Rattle.ddl.specs.declared.words.Command.TheVariants as command
 
@@ -15,13 +15,17 @@ pub data Form : Type 0 where
   Check : List ℕ → List ℕ → Form
 
 abbrev pub form_of : Command → Form
-form_of (command.Conclude file) = Conclude Definite (string_bytes file.now)
+form_of (command.Conclude f file) = Conclude f (string_bytes file.now)
 form_of (command.Print file) = Print (string_bytes file.now)
 form_of (command.Check theory cert) = Check (string_bytes theory.now) (string_bytes cert.now)
 
--- the families whose conclusions are built
+-- the letter of a family
 abbrev pub family_of : List ℕ → Option Family
-family_of word = if bytes_eq word (codes "D") then Some Definite else None
+family_of word =
+    if bytes_eq word (codes "D") then Some Definite
+    else (if bytes_eq word (codes "d") then Some Blocking
+    else (if bytes_eq word (codes "a") then Some Propagating
+    else (if bytes_eq word (codes "s") then Some Support else None)))
 
 -- a file has a name
 abbrev pub print_form : List ℕ → Option Form

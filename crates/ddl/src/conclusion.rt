@@ -1,16 +1,21 @@
 //! The conclusions of a theory.
 
-ghost use Rattle.std.specs.Prelude.{◌≡◌, ◌++◌, All, OnOk, IfOk, map};
-ghost use Rattle.dl_theory.specs.Lists.{TheoryLists};
-ghost use Rattle.dl_theory.specs.Listings.{AreLiterals, IsFamilyTable, Mentions};
+ghost use Rattle.std.specs.Prelude.{◌≡◌, ◌<◌, ◌≤◌, All, IfOk, length, map};
+ghost use Rattle.dl_marks.specs.Marks.{places};
+ghost use Rattle.dl_net.specs.Numbers.{literal_at};
+ghost use Rattle.dl_fill.specs.Filled.{IsRight};
+ghost use Rattle.dl_theory.specs.Listings.{AreLiterals};
 ghost use Rattle.dl_theory.specs.Verdicts.{IsVerdict};
-ghost use Rattle.dl_definite.specs.Spread.{over_rule, over_theory};
-ghost use Rattle.ddl.specs.Conclusions.{AreConclusions, both};
+ghost use Rattle.ddl.specs.Conclusions.{AreConclusions};
 
-use dl_definite::{definite_table, is_found};
-use dl_lit::{Family, Literal, Memory, Tagged};
-use dl_theory::{Rule, Theory, Verdict};
+use dl_lit::{Family, Literal, Memory, Tag};
+use dl_marks::{Marks, Steps};
+use dl_net::Net;
+use dl_theory::{Theory, Verdict};
+use dl_update::family_marks;
 use std::alloc::Global;
+use std::marker::Brand;
+use std::sync::ledger::{Blank, Ledger};
 
 /// A literal and what the theory says of it.
 #[derive(Drop)]
@@ -19,86 +24,103 @@ pub struct Conclusion {
     pub verdict: Verdict,
 }
 
-fn push_both(list: &mut Vec<Literal>, literal: &Literal) -> Result<(), Memory>
-    ensures { OnOk result (list.new.items ≡ list.old.items ++ both literal.now) }
-{
-    list.push(literal.copy()?)?;
-    list.push(literal.copy()?.complement())?;
-    Ok(())
-}
-
-fn push_rule(list: &mut Vec<Literal>, rule: &Rule) -> Result<(), Memory>
-    ensures { OnOk result (list.new.items ≡ list.old.items ++ over_rule both rule.now) }
-{
-    push_both(list, &rule.head)?;
-    for b in rule.body.as_slice() {
-        push_both(list, b)?;
-    }
-    Ok(())
-}
-
-// Each literal that occurs and its complement, place by place.
-fn occurring(alloc: Global, theory: &Theory) -> Result<Vec<Literal>, Memory>
-    ensures { IfOk result (λ list. list.items ≡ over_theory both theory.now) }
+// The literals that the theory mentions, in order.
+fn literals(alloc: Global, net: &Net) -> Result<Vec<Literal>, Memory>
+    ensures { IfOk result (λ list. AreLiterals net.now.theory list.items) }
 {
     let mut list = Vec::new(alloc);
-    for f in theory.facts() {
-        push_both(&mut list, f)?;
+    for number in 0..net.names() {
+        if net.lives(number) {
+            let literal = net.literal(number).copy()?;
+            list.push(literal)?;
+        }
     }
-    for r in theory.rules() {
-        push_rule(&mut list, r)?;
-    }
-    Ok(list)
-}
-
-// The literals that the theory mentions, in order.
-fn literals(alloc: Global, theory: &Theory) -> Result<Vec<Literal>, Memory>
-    ensures { IfOk result (λ list. AreLiterals theory.now list.items) }
-{
-    let mut list = occurring(alloc, theory)?;
     list.sort()?;
     list.dedup();
     Ok(list)
 }
 
-// What the table of the definite family says of a literal.
-fn verdict_of(table: &[Tagged], literal: &Literal) -> Verdict
-    ensures { (T : TheoryLists) → IsFamilyTable T Family.Definite table.now → Mentions T literal.now → IsVerdict T Family.Definite literal.now result }
+// What right marks say of the literal with a number.
+fn marked_verdict(net: &Net, marks: &Marks, family: Family, number: usize) -> Verdict
+    requires number { number < length net.now.names }
+    requires room { length net.now.names ≤ places marks.now }
+    requires right { IsRight net.now marks.now family }
+    ensures { IsVerdict net.now.theory family (literal_at net.now number) result }
 {
-    if is_found(table, true, literal) {
+    let proved = Tag { plus: true, family };
+    let refuted = Tag {
+        plus: false,
+        family,
+    };
+    if marks.get(proved, number) {
         Verdict::Proved
-    } else if is_found(table, false, literal) {
+    } else if marks.get(refuted, number) {
         Verdict::Refuted
     } else {
         Verdict::Neither
     }
 }
 
-// Each literal with what the table says of it.
+// What right marks say of a literal. One without a number is not mentioned, and so refuted.
+fn verdict_of(net: &Net, marks: &Marks, family: Family, literal: &Literal) -> Verdict
+    requires room { length net.now.names ≤ places marks.now }
+    requires right { IsRight net.now marks.now family }
+    ensures { IsVerdict net.now.theory family literal.now result }
+{
+    match net.find(literal) {
+        Some(number) => marked_verdict(net, marks, family, number),
+        None => {
+            let _count = net.names();
+            Verdict::Refuted
+        }
+    }
+}
+
+// Each literal with what right marks say of it.
 fn with_verdicts(
     alloc: Global,
-    table: &[Tagged],
+    net: &Net,
+    marks: &Marks,
+    family: Family,
     literals: &[Literal],
 ) -> Result<Vec<Conclusion>, Memory>
+    requires room { length net.now.names ≤ places marks.now }
+    requires right { IsRight net.now marks.now family }
     ensures listed { IfOk result (λ list. map (λ c. c.literal) list.items ≡ literals.now) }
-    ensures right { (T : TheoryLists) → IsFamilyTable T Family.Definite table.now → All (Mentions T) literals.now
-        → IfOk result (λ list. All (λ c. IsVerdict T Family.Definite c.literal c.verdict) list.items) }
+    ensures right { IfOk result (λ list. All (λ c. IsVerdict net.now.theory family c.literal c.verdict) list.items) }
 {
     let mut list = Vec::new(alloc);
     for literal in literals {
-        let verdict = verdict_of(table, literal);
+        let verdict = verdict_of(net, marks, family, literal);
         let literal = literal.copy()?;
         list.push(Conclusion { literal, verdict })?;
     }
     Ok(list)
 }
 
-/// The conclusions of a theory in the definite family.
-pub fn conclusions(alloc: Global, theory: &Theory) -> Result<Vec<Conclusion>, Memory>
-    ensures { IfOk result (λ list. AreConclusions theory.now Family.Definite list.items) }
+// The conclusions of a net's theory. What is counted belongs to a new ledger.
+fn conclusions_of<L: Ledger>(
+    alloc: Global,
+    family: Family,
+    net: &Net,
+    blank: Blank,
+) -> Result<Vec<Conclusion>, Memory>
+    requires name { blank.name ≡ L.name }
+    requires parts { blank.parts ≡ L.parts }
+    requires some { 0 < blank.parts }
+    ensures { IfOk result (λ list. AreConclusions net.now.theory family list.items) }
 {
-    let table = definite_table(alloc, theory)?;
-    let literals = literals(alloc, theory)?;
-    let list = with_verdicts(alloc, table.as_slice(), literals.as_slice())?;
+    let mut steps = Steps::<L>::make(blank);
+    let marks = family_marks(alloc, net, family, &mut steps)?;
+    let literals = literals(alloc, net)?;
+    let list = with_verdicts(alloc, net, &marks, family, literals.as_slice())?;
     Ok(list)
+}
+
+/// The conclusions of a theory in a family. `Memory` where there is none for its net, its marks or the list.
+pub fn conclusions(alloc: Global, family: Family, theory: Theory) -> Result<Vec<Conclusion>, Memory>
+    ensures { IfOk result (λ list. AreConclusions theory family list.items) }
+{
+    let net = Net::of(alloc, theory)?;
+    conclusions_of::<Brand>(alloc, family, &net, Blank::new(1))
 }

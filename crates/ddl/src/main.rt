@@ -5,9 +5,10 @@
 //! "Representation Results for Defeasible Logic" (2001).
 #![tactic(auto)]
 
-ghost use Rattle.std.specs.Prelude.{IfOk};
+ghost use Rattle.std.specs.Prelude.{◌≡◌, ◌⊎◌, IfOk, IfErr};
 ghost use Rattle.dl_io.specs.House.{IsShut};
 ghost use Rattle.dl_io.specs.Standard.{std_house};
+ghost use Rattle.ddl.specs.declared.status.Status.{Status};
 
 mod check;
 mod conclusion;
@@ -32,7 +33,9 @@ use std::io::ErrorKind;
 use std::process::ExitCode;
 
 // The words of the command line without the program's name.
-fn words_of(rt: &HostRuntime) -> Result<Vec<String>, Status> {
+fn words_of(rt: &HostRuntime) -> Result<Vec<String>, Status>
+    ensures { IfErr result (λ status. (status ≡ Status.Usage) ⊎ (status ≡ Status.Memory)) }
+{
     let args = match env::args(rt) {
         Ok(args) => args,
         Err(error) if error.kind() == ErrorKind::OutOfMemory => return Err(Status::Memory),
@@ -46,7 +49,8 @@ fn words_of(rt: &HostRuntime) -> Result<Vec<String>, Status> {
 
 // The words, and a house of the files that they name.
 fn begin(rt: &HostRuntime) -> Result<(Vec<String>, StdHouse), Status>
-    ensures { IfOk result (λ begun. IsShut (std_house begun.1)) }
+    ensures shut { IfOk result (λ begun. IsShut (std_house begun.1)) }
+    ensures stopped { IfErr result (λ status. (status ≡ Status.Usage) ⊎ (status ≡ Status.Memory)) }
 {
     let words = words_of(rt)?;
     match StdHouse::make(rt) {
@@ -60,5 +64,5 @@ fn main(rt: HostRuntime) -> ExitCode {
         Ok((words, mut house)) => run(&rt, rt.alloc(), &words, &mut house),
         Err(status) => status,
     };
-    ExitCode::from(status as u8)
+    ExitCode::from(status.code())
 }

@@ -25,16 +25,16 @@ use std::alloc::Global;
 use std::sync::Wait;
 use std::thread::Threads;
 
-// The conclusions of what a file gives.
-fn conclude(alloc: Global, loaded: Loaded) -> Result<Reply, Memory>
+// The conclusions, in a family, of what a file gives.
+fn conclude(alloc: Global, family: Family, loaded: Loaded) -> Result<Reply, Memory>
     ensures shown { (holds : List ℕ → Option (List ℕ)) (file : List ℕ) → HoldsLoaded (holds file) loaded
-        → IfOk result (λ reply. Shows holds (Some (Conclude Family.Definite file)) (outcome_of reply)) }
+        → IfOk result (λ reply. Shows holds (Some (Conclude family file)) (outcome_of reply)) }
     ensures ends { IfOk result (λ reply. (reply_status reply ≡ Status.Done) ⊎ (reply_status reply ≡ Status.Refused)) }
 {
     match loaded {
         Loaded::Theory(theory) => {
-            let list = conclusions(alloc, &theory)?;
-            Ok(Reply::Conclusions(Family::Definite, list))
+            let list = conclusions(alloc, family, theory)?;
+            Ok(Reply::Conclusions(family, list))
         }
         Loaded::Refused(refusal) => Ok(Reply::Refused(refusal)),
     }
@@ -118,9 +118,9 @@ fn reply_of<H: House>(alloc: Global, command: Command<'_>, house: &mut H) -> Res
         Shows (H.state house.old).holds (Some (form_of command.entry)) (outcome_of reply)) }
 {
     match command {
-        Command::Conclude(file) => {
+        Command::Conclude(family, file) => {
             let loaded = load(alloc, house, file)?;
-            let reply = conclude(alloc, loaded)?;
+            let reply = conclude(alloc, family, loaded)?;
             Ok(reply)
         }
         Command::Print(file) => {

@@ -18,3 +18,15 @@ pub enum Status {
     /// A session read all that it may.
     Spent,
 }
+
+impl Status {
+    ghost use Rattle.std.specs.Prelude.{◌≡◌};
+    ghost use Rattle.ddl.specs.Statuses.{status_code};
+
+    /// The exit status.
+    pub fn code(self) -> u8
+        ensures { result ≡ status_code self }
+    {
+        self as u8
+    }
+}

@@ -51,6 +51,12 @@ fn said<R: Threads + Wait + Sync>(
 
 const CONCLUDE: &[&str] = &["conclude", "D", "t"];
 
+const BLOCKING: &[&str] = &["conclude", "d", "t"];
+
+const PROPAGATING: &[&str] = &["conclude", "a", "t"];
+
+const SUPPORT: &[&str] = &["conclude", "s", "t"];
+
 const PRINT: &[&str] = &["print", "t"];
 
 #[derive(Drop)]
@@ -73,6 +79,75 @@ fn answered(
         status,
         text: text.as_bytes(),
     }
+}
+
+#[test]
+fn each_family_concludes_by_its_conditions(rt: HostRuntime) -> Result<(), Fail> {
+    let rows = [
+        answered(
+            BLOCKING,
+            ">> quaker\n>> republican\nr1: quaker => pacifist\nr2: republican => -pacifist\n",
+            Status::Done,
+            "-d pacifist\n-d -pacifist\n+d quaker\n-d -quaker\n+d republican\n-d -republican\n",
+        ),
+        answered(
+            SUPPORT,
+            ">> quaker\n>> republican\nr1: quaker => pacifist\nr2: republican => -pacifist\n",
+            Status::Done,
+            "+s pacifist\n+s -pacifist\n+s quaker\n-s -quaker\n+s republican\n-s -republican\n",
+        ),
+        answered(
+            BLOCKING,
+            "r1: => p\nr2: => -p\nr3: => q\nr4: p => -q\n",
+            Status::Done,
+            "-d p\n-d -p\n+d q\n-d -q\n",
+        ),
+        answered(
+            PROPAGATING,
+            "r1: => p\nr2: => -p\nr3: => q\nr4: p => -q\n",
+            Status::Done,
+            "-a p\n-a -p\n-a q\n-a -q\n",
+        ),
+        answered(
+            SUPPORT,
+            "r1: => p\nr2: => -p\nr3: => q\nr4: p => -q\n",
+            Status::Done,
+            "+s p\n+s -p\n+s q\n+s -q\n",
+        ),
+        answered(BLOCKING, "r: p => p\n", Status::Done, "?d p\n-d -p\n"),
+        answered(
+            BLOCKING,
+            "r1: => p\nr2: ~> -p\n",
+            Status::Done,
+            "-d p\n-d -p\n",
+        ),
+        answered(
+            BLOCKING,
+            "r1: => p\nr2: => p\ns1: => -p\ns2: => -p\nr1 > s1\nr2 > s2\n",
+            Status::Done,
+            "+d p\n-d -p\n",
+        ),
+        answered(BLOCKING, ">> -p\nr: => p\n", Status::Done, "-d p\n+d -p\n"),
+        answered(BLOCKING, ">> p\n>> -p\n", Status::Done, "+d p\n+d -p\n"),
+        answered(
+            BLOCKING,
+            "r[O]: => pay\n",
+            Status::Done,
+            "+d [O]pay\n-d [O]-pay\n",
+        ),
+        answered(
+            BLOCKING,
+            "# tax\n>> resident\n>> income\nr1[O]: income => pay_tax\nr2[O]: diplomat => -pay_tax\nr3: ambassador -> diplomat\nr2 > r1\n",
+            Status::Done,
+            "-d ambassador\n-d -ambassador\n-d diplomat\n-d -diplomat\n+d income\n-d -income\n+d [O]pay_tax\n-d [O]-pay_tax\n+d resident\n-d -resident\n",
+        ),
+    ];
+    for row in rows.iter() {
+        let (status, text) = said(&rt, rt.alloc(), row.words, row.file, &[], &[])?;
+        assert_eq!(rt; text.as_slice(), row.text);
+        assert_eq!(rt; status, row.status);
+    }
+    Ok(())
 }
 
 #[test]

@@ -2,27 +2,45 @@
 
 ghost use Rattle.std.specs.Prelude.{◌≡◌, map, string_bytes};
 ghost use Rattle.std.specs.Option.{option_map};
-ghost use Rattle.ddl.specs.Words.{form, form_of, form_of_three, conclude_form, check_form};
+ghost use Rattle.ddl.specs.Words.{form, form_of, form_of_three, conclude_form, check_form, family_of};
+
+use dl_lit::Family;
 
 /// What the words ask for.
 #[derive(Clone, Copy)]
 pub enum Command<'a> {
-    /// The conclusions of the theory in a file, in the definite family.
-    Conclude(&'a String),
+    /// The conclusions of the theory in a file, in a family.
+    Conclude(Family, &'a String),
     /// The canonical text of the theory in a file.
     Print(&'a String),
     /// Whether the second file is a certificate of the theory in the first.
     Check(&'a String, &'a String),
 }
 
-fn conclude<'a>(family: &str, file: &'a String) -> Option<Command<'a>>
-    ensures { option_map form_of result ≡ conclude_form family.now (string_bytes file.now) }
+fn family_of(word: &str) -> Option<Family>
+    ensures { result ≡ family_of word.now }
 {
-    if family == "D" && !file.is_empty() {
-        Some(Command::Conclude(file))
+    if word == "D" {
+        Some(Family::Definite)
+    } else if word == "d" {
+        Some(Family::Blocking)
+    } else if word == "a" {
+        Some(Family::Propagating)
+    } else if word == "s" {
+        Some(Family::Support)
     } else {
         None
     }
+}
+
+fn conclude<'a>(family: &str, file: &'a String) -> Option<Command<'a>>
+    ensures { option_map form_of result ≡ conclude_form family.now (string_bytes file.now) }
+{
+    if file.is_empty() {
+        return None;
+    }
+    let family = family_of(family)?;
+    Some(Command::Conclude(family, file))
 }
 
 fn check<'a>(theory: &'a String, cert: &'a String) -> Option<Command<'a>>

@@ -2,8 +2,6 @@ use Rattle.std.proofs.Common.{◌≡◌, ◌∙◌, List, [], ◌∷◌, ◌++�
 use Rattle.std.specs.Prelude.{All, map}
 use Rattle.std.proofs.lemmas.List.Elements.{All-push}
 use Rattle.dl_lit.specs.declared.literal.Literal.{Literal}
-use Rattle.dl_lit.specs.declared.literal.Family.TheVariants.{Definite}
-use Rattle.dl_theory.specs.Listings.{Mentions}
 use Rattle.dl_theory.specs.Verdicts.{IsVerdict}
 use Rattle.ddl.specs.declared.conclusion.Conclusion.{Conclusion}
 use Rattle.ddl.proofs.Verdicts.{listed_push}
@@ -19,11 +17,7 @@ loop-literal-preserved c =
     record {
       listed = ap (map (λ (y : Conclusion). y.literal)) pushed
           ∙ listed_push c.loop-literal.list.items x c.args.literals.now c.loop-literal.literal-index c.loop-literal-test.true c.loop-literal.invariant.listed here;
-      right = λ T table mentioned.
-          subst (λ (l : List Conclusion). All (λ y. IsVerdict T Definite y.literal y.verdict) l) (sym pushed)
-          (All-push (λ y. IsVerdict T Definite y.literal y.verdict) c.loop-literal.list.items x (c.loop-literal.invariant.right T table mentioned)
-          (subst (λ (q : Literal). IsVerdict T Definite q c.verdict_of-verdict.result) (sym copied)
-          (c.verdict_of-verdict.ensures T table
-          (subst (λ (q : Literal). Mentions T q) (sym c.literal-item.is)
-          (mentioned c.loop-literal.literal-index c.literal-item.result c.loop-literal-test.true)))));
+      right = subst (λ (l : List Conclusion). All (λ y. IsVerdict c.args.net.now.theory c.args.family y.literal y.verdict) l) (sym pushed)
+          (All-push (λ y. IsVerdict c.args.net.now.theory c.args.family y.literal y.verdict) c.loop-literal.list.items x c.loop-literal.invariant.right
+          (subst (λ (q : Literal). IsVerdict c.args.net.now.theory c.args.family q c.verdict_of-verdict.result) (sym copied) c.verdict_of-verdict.ensures));
     }

@@ -1,4 +1,4 @@
-use Rattle.std.proofs.Common.{◌≡◌, ◌∙◌, ℕ, List, Option, ap, sym, subst, string_bytes}
+use Rattle.std.proofs.Common.{◌∙◌, ℕ, List, Option, ap, sym, subst, string_bytes}
 use Rattle.std.specs.Prelude.{Err}
 use Rattle.ddl.specs.declared.reply.Reply.{Reply}
 use Rattle.std.proofs.lemmas.Result.{err_from_is_err_and}

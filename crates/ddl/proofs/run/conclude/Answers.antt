@@ -1,5 +1,4 @@
-use Rattle.std.proofs.Common.{string_bytes, subst}
-use Rattle.dl_lit.specs.declared.literal.Family.TheVariants.{Definite}
+use Rattle.std.proofs.Common.{subst}
 use Rattle.ddl.specs.declared.theory_file.Loaded.{Loaded}
 use Rattle.ddl.specs.Theories.{IsLoaded}
 use Rattle.ddl.specs.Words.{Conclude}
@@ -8,10 +7,10 @@ use Rattle.ddl.proofs.run.conclude.Goals as goal
 
 pub returns-in_ok-list-in-Theory-clause-shown : goal.returns-in_ok-list-in-Theory-clause-shown
 returns-in_ok-list-in-Theory-clause-shown c = λ holds file gives.
-    concluded Definite file gives.0 c.in-Theory.theory c.in_ok-list-in-Theory.list.items gives.1
+    concluded c.args.family file gives.0 c.in-Theory.theory c.in_ok-list-in-Theory.list.items gives.1
     (subst (λ (x : Loaded). IsLoaded gives.0 x) c.in-Theory.is gives.2) c.in_ok-list-in-Theory.ensures
 
 pub returns-in-Refused-clause-shown : goal.returns-in-Refused-clause-shown
 returns-in-Refused-clause-shown c = λ holds file gives.
-    refused (Conclude Definite file) gives.0 c.in-Refused.refusal gives.1
+    refused (Conclude c.args.family file) gives.0 c.in-Refused.refusal gives.1
     (subst (λ (x : Loaded). IsLoaded gives.0 x) c.in-Refused.is gives.2)
