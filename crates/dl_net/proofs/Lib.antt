@@ -9,6 +9,7 @@ pub mod LinkLemmas
 pub mod NameLemmas
 pub mod AboveLemmas
 pub mod NetLemmas
+pub mod KeptLemmas
 pub mod RowLemmas
 pub mod UpperLemmas
 pub mod FindLemmas

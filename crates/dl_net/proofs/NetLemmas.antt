@@ -1,24 +1,30 @@
--- The tables of a theory, and of a theory after an edit.
-use Rattle.std.proofs.Common.{◌≡◌, ◌≤◌, Bool, List, length, map, subst, inl, inr}
+-- The tables of a theory, of a theory after an edit, and of more names.
+use Rattle.std.proofs.Common.{◌≡◌, ◌≤◌, ◌<◌, ℕ, Bool, false, not, List, length, get_or, map, sym, ap, subst, ◌∙◌, inl, inr, arith, length-append}
 use Rattle.std.specs.Prelude.{All, Contains, flat_map}
+use Rattle.std.specs.Str.{bytes_eq}
+use Rattle.std.specs.Set.{is_member}
+use Rattle.std.proofs.Math.ListN.{get_or-append}
+use Rattle.std.proofs.lemmas.Bool.{cases_lt}
+use Rattle.std.proofs.lemmas.List.{get_or_default, get_or_past}
 use Rattle.std.proofs.lemmas.List.Elements.{All-contains, All-push, All-filter, All-weaker}
+use Rattle.std.proofs.lemmas.Map.Made.{is_member-Decides}
 use Rattle.dl_base.specs.Paths.{IsDistinct}
+use Rattle.dl_base.proofs.Filters.{false_unless}
+use Rattle.dl_base.proofs.Members.{map_agree}
 use Rattle.dl_lit.specs.declared.literal.Literal.{Literal}
-use Rattle.dl_lit.specs.Literal.{complement}
+use Rattle.dl_lit.specs.Literal.{complement, literal_eq}
+use Rattle.dl_lit.specs.Order.{literal_eq-Decides}
 use Rattle.dl_theory.specs.declared.rule.Rule.{Rule}
-use Rattle.dl_theory.specs.Lists.{TheoryLists}
-use Rattle.dl_theory.specs.Listings.{Occurs, Mentions}
 use Rattle.dl_theory.specs.declared.edit.Edit.{Edit}
 use Rattle.dl_theory.specs.declared.edit.Edit.TheVariants.{AddRule, DropRule, AddFact, DropFact, AddPair, DropPair}
+use Rattle.dl_theory.specs.Lists.{TheoryLists}
+use Rattle.dl_theory.specs.Listings.{Occurs, Mentions}
 use Rattle.dl_theory.specs.Edits.{after_edit}
-use Rattle.dl_lit.specs.Literal.{literal_eq}
-use Rattle.std.specs.Str.{bytes_eq}
-use Rattle.std.specs.Prelude.{not}
 use Rattle.dl_net.specs.Numbers.{NetLists, IsNumbered, no_literal}
 use Rattle.dl_net.specs.Above.{lower_step, upper_step}
-use Rattle.dl_net.specs.Named.{IsPaired, HasLiterals, HasFacts, Grows, line_in}
-use Rattle.dl_net.specs.KeptNet.{HasTables}
+use Rattle.dl_net.specs.Named.{IsPaired, HasLiterals, HasFacts, Grows, number_in, line_in}
 use Rattle.dl_net.specs.Lines.{IndexLists}
+use Rattle.dl_net.specs.KeptNet.{HasTables}
 use Rattle.dl_net.specs.Edited.{HasEditLiterals}
 use Rattle.dl_net.proofs.NameLemmas.{paired_closed, complement_twice, number_at, Grows-keeps, literals_kept}
 
@@ -49,12 +55,12 @@ pub tables_by : (N : NetLists) (marks : List Bool) (x : IndexLists) → All (Con
     → HasFacts N.names N.theory.facts marks → x.lines ≡ map (line_in N.names) N.theory.rules
     → x.lowers ≡ map (λ t. flat_map (λ p. lower_step N.theory p t) N.theory.pairs) N.theory.rules
     → x.uppers ≡ map (λ u. flat_map (λ p. upper_step N.theory p u) N.theory.pairs) N.theory.rules
-    → length N.names ≤ x.width → HasTables N marks x
-tables_by N marks x facts rules are lines lowers uppers wide = record {
+    → HasTables N marks x
+tables_by N marks x facts rules are lines lowers uppers = record {
   facts_named = facts;
   rules_named = rules;
   facts = are;
-  index = record { lines = lines; lowers = lowers; uppers = uppers; wide = wide };
+  index = record { lines = lines; lowers = lowers; uppers = uppers };
 }
 
 -- the literals of a theory after an edit
@@ -80,3 +86,62 @@ facts_grown P a b qs g h = All-weaker (Contains a) (Contains b) (λ q m. Grows-k
 
 pub rules_grown : (P : Literal → Type 0) (a b : List Literal) (rs : List Rule) → Grows P a b → All (HasLiterals a) rs → All (HasLiterals b) rs
 rules_grown P a b rs g h = All-weaker (HasLiterals a) (HasLiterals b) (λ r k. literals_kept a b r (λ q m. Grows-keeps P a b q g m) k) rs h
+
+-- ---- more names
+
+module _ (a b : List Literal) (distinct : IsDistinct b) (P : Literal → Type 0) (g : Grows P a b) where
+  kept_at : (n : ℕ) (d : Literal) → n < length a → get_or b n d ≡ get_or a n d
+  kept_at n d lt = ap (λ (ls : List Literal). get_or ls n d) g.is ∙ get_or-append a g.more d n lt
+
+  longer : length a ≤ length b
+  longer = omega (arith, ap length g.is, length-append a g.more)
+
+  distinct_before : IsDistinct a
+  distinct_before i j d before within same =
+      distinct i j d before (omega (arith, within, longer)) (kept_at i d (omega (arith, before, within)) ∙ same ∙ sym (kept_at j d within))
+
+  number_kept : (q : Literal) → Contains a q → number_in a q ≡ number_in b q
+  number_kept q m =
+      ap (number_in a) (sym m.2) ∙ number_at a m.0 q distinct_before m.1
+      ∙ sym (number_at b m.0 q distinct (omega (arith, m.1, longer))) ∙ ap (number_in b) (kept_at m.0 q m.1 ∙ m.2)
+
+  line_kept : (r : Rule) → HasLiterals a r → line_in a r ≡ line_in b r
+  line_kept r h = λ i. record {
+    kind = r.kind;
+    head = number_kept r.head h.0 i;
+    body = map_agree (number_in a) (number_in b) r.body (All-weaker (Contains a) (λ q. number_in a q ≡ number_in b q) number_kept r.body h.1) i;
+  }
+
+  lines_kept : (rs : List Rule) → All (HasLiterals a) rs → map (line_in a) rs ≡ map (line_in b) rs
+  lines_kept rs h = map_agree (line_in a) (line_in b) rs (All-weaker (HasLiterals a) (λ r. line_in a r ≡ line_in b r) line_kept rs h)
+
+  -- what was not among the names is no fact
+  new_unknown : (n : ℕ) (d : Literal) → length a ≤ n → n < length b → ¬ Contains a (get_or b n d)
+  new_unknown n d past lt m =
+      distinct m.0 n (get_or b n d) (omega (arith, m.1, past)) lt
+      (kept_at m.0 (get_or b n d) m.1 ∙ m.2 ∙ get_or_default b n d (get_or b n d) lt)
+
+  marks_kept : (facts : List Literal) (marks : List Bool) → All (Contains a) facts → HasFacts a facts marks → HasFacts b facts marks
+  marks_kept facts marks named h = record {
+    marked = λ n lt. elim (cases_lt n (length a)) [
+      | inl before ↦ h.marked n before ∙ ap (is_member literal_eq facts) (sym (kept_at n no_literal before))
+      | inr past ↦ get_or_past marks n false (omega (arith, h.within, past))
+          ∙ sym (false_unless (is_member literal_eq facts (get_or b n no_literal)) (is_member-Decides literal_eq-Decides facts (get_or b n no_literal))
+          (λ m. new_unknown n no_literal past lt (All-contains (Contains a) facts (get_or b n no_literal) named m)))
+    ];
+    within = omega (arith, h.within, longer);
+  }
+
+-- the tables of a theory hold for more names
+pub tables_grown : (N : NetLists) (marks : List Bool) (x : IndexLists) (ls : List Literal) (P : Literal → Type 0) → IsDistinct ls → Grows P N.names ls
+    → HasTables N marks x → HasTables (record N { names = ls }) marks x
+tables_grown N marks x ls P distinct g h = record {
+  facts_named = facts_grown P N.names ls N.theory.facts g h.facts_named;
+  rules_named = rules_grown P N.names ls N.theory.rules g h.rules_named;
+  facts = marks_kept N.names ls distinct P g N.theory.facts marks h.facts_named h.facts;
+  index = record {
+    lines = h.index.lines ∙ lines_kept N.names ls distinct P g N.theory.rules h.rules_named;
+    lowers = h.index.lowers;
+    uppers = h.index.uppers;
+  };
+}

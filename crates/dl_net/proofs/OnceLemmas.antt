@@ -1,11 +1,14 @@
 -- The members of a list, each once.
-use Rattle.std.proofs.Common.{◌≡◌, ℕ, ◌+◌, ◌≤◌, Bool, true, false, List, [], ◌∷◌, ◌++◌, length, refl, ap, ◌∙◌, arith, cond, length-append}
-use Rattle.std.specs.Prelude.{filter, not, ◌==◌, ◌||◌}
+use Rattle.std.proofs.Common.{◌≡◌, ℕ, ◌+◌, ◌≤◌, Bool, true, false, List, [], ◌∷◌, ◌++◌, length, refl, sym, ap, ◌∙◌, arith, cond, inl, inr, length-append}
+use Rattle.std.specs.Prelude.{filter, not, ◌==◌, ◌||◌, ◌&&◌}
+use Rattle.std.specs.List.{list_any}
+use Rattle.std.proofs.lemmas.Bool.{cases_eq}
 use Rattle.std.proofs.lemmas.List.Elements.{filter-append}
 use Rattle.std.proofs.lemmas.List.{append-nil}
 use Rattle.dl_base.proofs.Filters.{length-filter_le}
 use Rattle.dl_net.specs.Counting.{each_once}
 use Rattle.dl_net.specs.Lines.{is_in}
+use Rattle.dl_net.proofs.NumberLists.{alike, differ, and_true, is_in-filter}
 
 -- another member is new, or was there
 push_step : (b : ℕ) (e v : Bool) → cond (not e) (cond v [] (b ∷ [])) [] ≡ cond (e || v) [] (b ∷ [])
@@ -39,3 +42,57 @@ each_once-push_old xs b e =
 pub each_once_shorter : (xs : List ℕ) → length (each_once xs) ≤ length xs
 each_once_shorter [] = omega arith
 each_once_shorter (x ∷ xs) = omega (arith, length-filter_le (λ y. not (y == x)) (each_once xs), each_once_shorter xs)
+
+filter_full : (p : ℕ → Bool) (xs : List ℕ) → length xs ≤ length (filter p xs) → filter p xs ≡ xs
+filter_full p [] h = refl
+filter_full p (x ∷ xs) h = by (p x) (filter_full p xs) h
+  where
+    by : (b : Bool) → (length xs ≤ length (filter p xs) → filter p xs ≡ xs)
+        → length (x ∷ xs) ≤ length (cond b (x ∷ filter p xs) (filter p xs)) → cond b (x ∷ filter p xs) (filter p xs) ≡ x ∷ xs
+    by true rest k = ap (λ ys. x ∷ ys) (rest (omega (arith, k)))
+    by false rest k = absurd (omega (arith, k, length-filter_le p xs))
+
+-- where as many are left, none stood twice
+pub each_once_full : (xs : List ℕ) → length (each_once xs) ≡ length xs → each_once xs ≡ xs
+each_once_full [] e = refl
+each_once_full (x ∷ xs) e =
+    let p : ℕ → Bool = λ y. not (y == x) in
+    let rest : each_once xs ≡ xs = each_once_full xs (omega (arith, e, each_once_shorter xs, length-filter_le p (each_once xs))) in
+    ap (λ ys. x ∷ ys) (filter_full p (each_once xs) (omega (arith, e, each_once_shorter xs)) ∙ rest)
+
+in_step : (v w : Bool) → (v || (w && not v)) ≡ (v || w)
+in_step true w = refl
+in_step false w = and_true w
+
+-- the same numbers stand in both
+pub is_in-each_once : (xs : List ℕ) (n : ℕ) → is_in (each_once xs) n ≡ is_in xs n
+is_in-each_once [] n = refl
+is_in-each_once (x ∷ xs) n =
+    ap (λ v. (n == x) || v) (is_in-filter (each_once xs) x n ∙ ap (λ v. v && not (n == x)) (is_in-each_once xs n))
+    ∙ in_step (n == x) (is_in xs n)
+
+turned_round : (a b : ℕ) → (a == b) ≡ (b == a)
+turned_round a b =
+    elim (cases_eq a b) [
+      | inl e ↦ alike a b e ∙ sym (alike b a (sym e))
+      | inr d ↦ differ a b d ∙ sym (differ b a (λ e. d (sym e)))
+    ]
+
+pub is_in-turned : (xs : List ℕ) (n : ℕ) → list_any (λ x. x == n) xs ≡ is_in xs n
+is_in-turned [] n = refl
+is_in-turned (x ∷ xs) n = ap (λ v. v || list_any (λ y. y == n) xs) (turned_round x n) ∙ ap (λ v. (n == x) || v) (is_in-turned xs n)
+
+push_unless : (v : Bool) (xs : List ℕ) (b : ℕ) → cond v xs (xs ++ b ∷ []) ≡ xs ++ cond v [] (b ∷ [])
+push_unless true xs b = sym (append-nil xs)
+push_unless false xs b = refl
+
+-- one more number goes last, unless it was there
+pub each_once-inserted : (done : List ℕ) (b : ℕ) (v : Bool) → is_in (each_once done) b ≡ v
+    → cond v (each_once done) (each_once done ++ b ∷ []) ≡ each_once (done ++ b ∷ [])
+each_once-inserted done b v e =
+    push_unless v (each_once done) b
+    ∙ sym (each_once-push done b ∙ ap (λ w. each_once done ++ cond w [] (b ∷ [])) (sym (is_in-each_once done b) ∙ e))
+
+pub unless_not : (v w : Bool) → w ≡ not v → v ≡ not w
+unless_not true w e = ap not (sym e)
+unless_not false w e = ap not (sym e)

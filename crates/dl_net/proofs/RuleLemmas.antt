@@ -6,10 +6,9 @@ use Rattle.std.proofs.lemmas.Bool.{cases_eq, cases_lt}
 use Rattle.std.proofs.lemmas.List.{get_or_append_left, get_or_at, map-append, append-nil}
 use Rattle.std.proofs.lemmas.List.Elements.{All-push, All-get_or, All-weaker, All-contains, All-contains_itself, filter-append}
 use Rattle.dl_base.proofs.Members.{map_agree}
-use Rattle.dl_net.specs.Counting.{each_once}
 use Rattle.dl_net.specs.declared.entry.Entry.{Entry}
 use Rattle.dl_net.specs.Tables.{Table, list_at, KeepsLists}
-use Rattle.dl_net.specs.Lines.{Line, is_in, line_of, entry_at, IsWithin, IsKeptEntry}
+use Rattle.dl_net.specs.Lines.{Line, is_in, line_of, entry_at, IsFit, IsKeptEntry}
 use Rattle.dl_net.specs.Indexes.{line_at, place_in, by_place, HasRules, HasLinks}
 use Rattle.dl_net.proofs.NumberLists.{filter_agree_on, alike, differ}
 
@@ -20,7 +19,11 @@ All-by_member P xs h = All-weaker (Contains xs) P h xs (All-contains_itself xs)
 pub entry_wider : (w v : ℕ) (o : Option Entry) → w ≤ v → IsKeptEntry w o → IsKeptEntry v o
 entry_wider w v None up h = h
 entry_wider w v (Some e) up h =
-    ((omega (arith, h.0.0, up), All-weaker (λ b. b < w) (λ b. b < v) (λ k lt. omega (arith, lt, up)) e.body.items h.0.1), h.1)
+    record {
+      within = (omega (arith, h.within.0, up), All-weaker (λ b. b < w) (λ b. b < v) (λ k lt. omega (arith, lt, up)) e.body.items h.within.1);
+      once = h.once;
+      short = h.short;
+    }
 
 module _ (entries : List (Option Entry)) (e : Entry) where
   pub entry_kept : (s : ℕ) → s < length entries → entry_at (entries ++ Some e ∷ []) s ≡ entry_at entries s
@@ -41,9 +44,6 @@ module _ (entries : List (Option Entry)) (e : Entry) where
       (λ s h. ap (λ o. test (line_of o)) (entry_kept s h)) order within))
       ∙ ap (λ b. filter (λ s. test (line_at entries s)) order ++ cond b (length entries ∷ []) []) (ap (λ o. test (line_of o)) entry_new)
 
-  kept_by : (w : ℕ) → IsWithin w (line_of (Some e)) → e.width ≡ length (each_once e.body.items) → IsKeptEntry w (Some e)
-  kept_by w ok width = (ok, width)
-
   pub placed_add : (order places : List ℕ) (k : ℕ) → ((j : ℕ) → j < length order → place_in places (get_or order j 0) ≡ j) → All (λ s. s < length entries) order
       → length places ≡ length entries → k < length (order ++ length entries ∷ [])
       → place_in (places ++ length order ∷ []) (get_or (order ++ length entries ∷ []) k 0) ≡ k
@@ -60,11 +60,11 @@ module _ (entries : List (Option Entry)) (e : Entry) where
       ]
 
   pub HasRules-add : (order places : List ℕ) (heads uses heads' uses' : Table) → HasRules entries order places heads uses
-      → IsWithin (length heads.lists) (line_of (Some e)) → e.width ≡ length (each_once e.body.items)
+      → IsFit (length heads.lists) e
       → heads'.lists ≡ set heads.lists e.head (list_at heads e.head ++ length entries ∷ [])
       → ((n : ℕ) → list_at uses' n ≡ list_at uses n ++ cond (is_in e.body.items n) (length entries ∷ []) []) → length uses'.lists ≡ length uses.lists
       → HasRules (entries ++ Some e ∷ []) (order ++ length entries ∷ []) (places ++ length order ∷ []) heads' uses'
-  HasRules-add order places heads uses heads' uses' h ok width by_h by_u wide =
+  HasRules-add order places heads uses heads' uses' h fit by_h by_u wide =
       let same : length heads'.lists ≡ length heads.lists =
       ap length by_h ∙ length-set heads.lists e.head (list_at heads e.head ++ length entries ∷ []) in
       record {
@@ -79,11 +79,11 @@ module _ (entries : List (Option Entry)) (e : Entry) where
             (All-by_member (λ s. IsKeptEntry (length heads.lists) (entry_at (entries ++ Some e ∷ []) s)) order (λ s there.
             subst (λ (o : Option Entry). IsKeptEntry (length heads.lists) o) (sym (entry_kept s (All-contains (λ t. t < length entries) order s h.within there)))
             (All-contains (λ t. IsKeptEntry (length heads.lists) (entry_at entries t)) order s h.kept there)))
-            (subst (λ (o : Option Entry). IsKeptEntry (length heads.lists) o) (sym entry_new) (kept_by (length heads.lists) ok width)));
+            (subst (λ (o : Option Entry). IsKeptEntry (length heads.lists) o) (sym entry_new) fit));
         by_head = λ n.
             elim (cases_eq n e.head) [
               | inl here ↦ ap (λ k. list_at heads' k) here ∙ ap (λ (ls : List (List ℕ)). get_or ls e.head []) by_h
-                  ∙ get_or-set_same heads.lists e.head (list_at heads e.head ++ length entries ∷ []) [] ok.0
+                  ∙ get_or-set_same heads.lists e.head (list_at heads e.head ++ length entries ∷ []) [] fit.within.0
                   ∙ ap (λ k. list_at heads k ++ length entries ∷ []) (sym here)
                   ∙ ap (λ b. list_at heads n ++ cond b (length entries ∷ []) []) (sym (alike n e.head here))
                   ∙ ap (λ xs. xs ++ cond (n == e.head) (length entries ∷ []) []) (h.by_head n)

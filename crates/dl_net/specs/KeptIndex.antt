@@ -7,7 +7,7 @@ use Rattle.dl_net.specs.declared.entry.Between.{Between}
 use Rattle.dl_net.specs.declared.entry.Room.{Room}
 use Rattle.dl_net.specs.declared.entry.Room.TheVariants.{Nothing, ForRule, ForLink}
 use Rattle.dl_net.specs.Tables.{spare_at}
-use Rattle.dl_net.specs.Lines.{Line, Meeting, IndexLists, line_of, IsWithin}
+use Rattle.dl_net.specs.Lines.{Line, Meeting, IndexLists, line_of, IsFit}
 use Rattle.dl_net.specs.Indexes.{line_at, place_in, HasRules, HasLinks, by_place}
 
 abbrev pub ready_of : Room → Option Line
@@ -32,8 +32,7 @@ index_of a = record {
 
 -- room for one more rule
 pub record HasRuleRoom (a : Inside) (e : Entry) : Type 0 where
-  pub within : IsWithin (length a.heads.lists) (line_of (Some e))
-  pub short : length e.body.items < 2 ^ 32
+  pub fit : IsFit (length a.heads.lists) e
   pub few : length a.entries.items < 2 ^ 32
   pub entries_room : vec_len a.entries < vec_capacity a.entries
   pub order_room : vec_len a.order < vec_capacity a.order

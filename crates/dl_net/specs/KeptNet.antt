@@ -1,5 +1,5 @@
 -- How the fields of a net hold a theory by numbers, and the theory by an edit that is prepared.
-use Rattle.std.specs.Prelude.{◌≡◌, ◌≤◌, Bool, true, Option, None, Some, List, length, map, All, Contains}
+use Rattle.std.specs.Prelude.{◌≡◌, Bool, true, Option, None, Some, List, map, All, Contains}
 use Rattle.dl_theory.specs.declared.edit.Edit.{Edit}
 use Rattle.dl_theory.specs.Lists.{TheoryLists, IsWellFormed}
 use Rattle.dl_theory.specs.Edits.{IsAccepted, after_edit}
@@ -29,7 +29,6 @@ pub record HasIndex (N : NetLists) (x : IndexLists) : Type 0 where
   pub lines : x.lines ≡ map (line_in N.names) N.theory.rules
   pub lowers : x.lowers ≡ map (lowers_row N) N.theory.rules
   pub uppers : x.uppers ≡ map (uppers_row N (λ _. true)) N.theory.rules
-  pub wide : length N.names ≤ x.width
 
 -- tables of a theory whose literals all have numbers
 pub record HasTables (N : NetLists) (marks : List Bool) (x : IndexLists) : Type 0 where

@@ -1,5 +1,6 @@
 -- Rules by number, and the lists that lead to them.
-use Rattle.std.specs.Prelude.{◌≡◌, ℕ, ◌<◌, ◌≤◌, ◌==◌, Bool, cond, Option, None, Some, List, [], ◌∷◌, length, All, get_or}
+use Rattle.std.specs.Prelude.{◌≡◌, ℕ, ◌<◌, ◌≤◌, ◌^◌, ◌==◌, Bool, cond, Option, None, Some, List, [], ◌∷◌, length, All, get_or, Vec}
+use Rattle.std.specs.declared.alloc.Global.{Global}
 use Rattle.std.specs.List.{list_any}
 use Rattle.dl_theory.specs.declared.rule.Kind.{Kind}
 use Rattle.dl_theory.specs.declared.rule.Kind.TheVariants.{Defeater}
@@ -71,10 +72,25 @@ abbrev pub line_of : Option Entry → Line
 line_of None = no_line
 line_of (Some e) = record { kind = e.kind; head = e.head; body = e.body.items }
 
+-- the list that is there, or else the other
+abbrev pub once_or : Option (Vec ℕ Global) → List ℕ → List ℕ
+once_or None body = body
+once_or (Some once) body = once.items
+
 abbrev pub entry_at : List (Option Entry) → ℕ → Option Entry
 entry_at entries s = get_or entries s None
+
+-- the numbers of an entry's body, each where it first stands
+abbrev pub once_list : Entry → List ℕ
+once_list e = once_or e.once e.body.items
+
+-- an entry with numbers below the width, which tells those of its short body each once
+pub record IsFit (width : ℕ) (e : Entry) : Type 0 where
+  pub within : IsWithin width (line_of (Some e))
+  pub once : once_list e ≡ each_once e.body.items
+  pub short : length e.body.items < 2 ^ 32
 
 -- the entry of a rule that is there
 abbrev pub IsKeptEntry : ℕ → Option Entry → Type 0
 IsKeptEntry width None = ⊥
-IsKeptEntry width (Some e) = IsWithin width (line_of (Some e)) × (e.width ≡ length (each_once e.body.items))
+IsKeptEntry width (Some e) = IsFit width e

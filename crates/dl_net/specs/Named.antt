@@ -43,7 +43,7 @@ head_row N r = number N r.head ∷ []
 abbrev pub concluded_row : NetLists → Bool → Rule → List ℕ
 concluded_row N strict r = cond (passes strict r.kind) (number N r.head ∷ []) []
 
--- by number, whether the literal is a fact
+-- by number, whether the literal is a fact; a number past the marks is that of no fact
 pub record HasFacts (ls facts : List Literal) (marks : List Bool) : Type 0 where
   pub marked : (n : ℕ) → n < length ls → get_or marks n false ≡ is_member literal_eq facts (get_or ls n no_literal)
-  pub wide : length ls ≤ length marks
+  pub within : length marks ≤ length ls

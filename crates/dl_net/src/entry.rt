@@ -1,5 +1,8 @@
 //! Rules by number.
 
+ghost use Rattle.std.specs.Prelude.{◌≡◌};
+ghost use Rattle.dl_net.specs.Lines.{once_list};
+
 use dl_theory::Kind;
 
 /// A rule whose literals are numbers.
@@ -9,8 +12,20 @@ pub(crate) struct Entry {
     pub head: u32,
     /// The numbers of the body in its order, with repeats.
     pub body: Vec<u32>,
-    /// How many numbers the body has, each counted once.
-    pub width: u32,
+    /// The numbers of the body, each where it first stands; `None` where none stands twice.
+    pub once: Option<Vec<u32>>,
+}
+
+impl Entry {
+    /// The numbers of the body, each where it first stands.
+    pub fn each_once(&self) -> &[u32]
+        ensures { result.now ≡ once_list self.now }
+    {
+        match &self.once {
+            None => self.body.as_slice(),
+            Some(once) => once.as_slice(),
+        }
+    }
 }
 
 /// Two rules by inner number, one above the other.

@@ -8,7 +8,7 @@ ghost use Rattle.dl_theory.specs.Lists.{is_strict, can_support};
 ghost use Rattle.dl_net.specs.Counting.{each_once};
 ghost use Rattle.dl_net.specs.Rows.{places, row};
 ghost use Rattle.dl_net.specs.Tables.{list_at};
-ghost use Rattle.dl_net.specs.Lines.{KeepsRules, no_index, no_line, list_of, line_of, entry_at, heads_row, uses_row, kind_row, IsWithin};
+ghost use Rattle.dl_net.specs.Lines.{KeepsRules, no_index, no_line, list_of, line_of, once_list, entry_at, heads_row, uses_row, kind_row, IsWithin};
 ghost use Rattle.dl_net.specs.Indexes.{place_in};
 
 use crate::counts::{can_support, count, passes};
@@ -77,6 +77,7 @@ impl Index {
     /// Memory for one more rule.
     pub fn reserve(&mut self, entry: Entry) -> Result<(), Memory>
         requires within { IsWithin self.old.width (line_of (Some entry)) }
+        requires once { once_list entry ≡ each_once entry.body.items }
         requires short { length entry.body.items < 2 ^ 32 }
         ensures kept { KeepsRules self.old self.new }
         ensures ready { OnOk result (self.new.ready ≡ Some (line_of (Some entry))) }
@@ -200,7 +201,20 @@ impl Index {
         if rule >= self.len() {
             return 0;
         }
-        self.entry(rule).width as usize
+        self.entry(rule).each_once().len()
+    }
+
+    /// The number at a place of the body, each where it first stands; `None` exactly past the end, and where no such rule is.
+    pub fn once(&self, rule: usize, at: usize) -> Option<usize>
+        ensures { result ≡ slice_get (row uses_row self.now.lines rule) at }
+    {
+        if rule >= self.len() {
+            return None;
+        }
+        match self.entry(rule).each_once().get(at) {
+            None => None,
+            Some(number) => Some(*number as usize),
+        }
     }
 
     /// Whether the rule is there and can support its head.
@@ -239,7 +253,8 @@ impl Index {
     fn entry(&self, rule: usize) -> &Entry
         requires { rule < length self.now.lines }
         ensures line { line_of (Some result.now) ≡ get_or self.now.lines rule no_line }
-        ensures width { result.now.width ≡ length (each_once result.now.body.items) }
+        ensures once { once_list result.now ≡ each_once result.now.body.items }
+        ensures short { length result.now.body.items < 2 ^ 32 }
     {
         match &self.entries[self.order[rule] as usize] {
             None => unreachable!(),

@@ -2,6 +2,7 @@
 #![tactic(auto)]
 
 mod counts;
+mod edits;
 mod entry;
 mod index;
 mod link;
@@ -19,4 +20,5 @@ mod rows;
 
 pub use link::Link;
 pub use net::Net;
+pub use next::Ready;
 pub use region::Region;

@@ -38,7 +38,6 @@ pub(crate) fn index_of(alloc: Global, names: &Names, theory: &Theory) -> Result<
     ensures lines { IfOk result (λ index. index.lines ≡ map (line_in names.now.literals) theory.now.rules) }
     ensures lowers { IfOk result (λ index. index.lowers ≡ map (λ t. flat_map (λ p. lower_step theory.now p t) theory.now.pairs) theory.now.rules) }
     ensures uppers { IfOk result (λ index. index.uppers ≡ map (λ u. flat_map (λ p. upper_step theory.now p u) theory.now.pairs) theory.now.rules) }
-    ensures wide { IfOk result (λ index. length names.now.literals ≤ index.width) }
 {
     let mut index = Index::make(alloc);
     index.widen(names.len())?;
@@ -63,7 +62,6 @@ pub(crate) fn load_rules(
     ensures lines { OnOk result (index.new.lines ≡ map (line_in names.now.literals) rules.now) }
     ensures lowers { OnOk result (index.new.lowers ≡ map (λ _. []) rules.now) }
     ensures uppers { OnOk result (index.new.uppers ≡ map (λ _. []) rules.now) }
-    ensures wide { OnOk result (length names.now.literals ≤ index.new.width) }
 {
     for rule in rules {
         let entry = entry_of(alloc, names, rule)?;
@@ -84,7 +82,6 @@ pub(crate) fn load_pairs(index: &mut Index, names: &Names, theory: &Theory) -> R
     ensures lines { OnOk result (index.new.lines ≡ index.old.lines) }
     ensures lowers { OnOk result (index.new.lowers ≡ map (λ t. flat_map (λ p. lower_step theory.now p t) theory.now.pairs) theory.now.rules) }
     ensures uppers { OnOk result (index.new.uppers ≡ map (λ u. flat_map (λ p. upper_step theory.now p u) theory.now.pairs) theory.now.rules) }
-    ensures wide { OnOk result (index.old.width ≤ index.new.width) }
 {
     let _count = theory.pairs_len();
     for pair in theory.pairs() {
@@ -102,7 +99,6 @@ fn load_pair(index: &mut Index, names: &Names, theory: &Theory, pair: &Pair) -> 
     ensures lines { OnOk result (index.new.lines ≡ index.old.lines) }
     ensures lowers { OnOk result ((F : Rule → List ℕ) → index.old.lowers ≡ map F theory.now.rules → index.new.lowers ≡ map (λ t. F t ++ lower_step theory.now pair.now t) theory.now.rules) }
     ensures uppers { OnOk result ((F : Rule → List ℕ) → index.old.uppers ≡ map F theory.now.rules → index.new.uppers ≡ map (λ u. F u ++ upper_step theory.now pair.now u) theory.now.rules) }
-    ensures wide { OnOk result (index.old.width ≤ index.new.width) }
 {
     match theory.rule_place(&pair.upper) {
         None => unreachable!(),

@@ -89,7 +89,6 @@ impl Net {
         requires lines { index.lines ≡ map (line_in names.literals) theory.rules }
         requires lowers { index.lowers ≡ map (λ t. flat_map (λ p. lower_step theory p t) theory.pairs) theory.rules }
         requires uppers { index.uppers ≡ map (λ u. flat_map (λ p. upper_step theory p u) theory.pairs) theory.rules }
-        requires wide { length names.literals ≤ index.width }
         requires frozen { frozen ≡ true → names.frozen ≡ true }
         ensures theory { result.theory ≡ theory }
         ensures names { result.names ≡ names.literals }
@@ -164,7 +163,10 @@ impl Net {
         requires { number < length self.now.names }
         ensures { result ≡ is_fact self.now number }
     {
-        self.facts[number]
+        match self.facts.get(number) {
+            None => false,
+            Some(mark) => *mark,
+        }
     }
 
     pub fn facts_len(&self) -> usize

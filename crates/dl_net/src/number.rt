@@ -1,25 +1,40 @@
 //! Literals get numbers, each beside its complement.
 
-ghost use Rattle.std.specs.Prelude.{◌≡◌, ℕ, ◌<◌, ◌^◌, ◌∷◌, [], OnOk, IfOk, All, Some, Contains, length, map, set, true};
+ghost use Rattle.std.specs.Prelude.{◌≡◌, ℕ, ◌<◌, ◌^◌, ◌∷◌, [], OnOk, IfOk, All, Some, Contains, length, map, set, true, IsTrue};
 ghost use Rattle.dl_base.specs.Paths.{IsDistinct};
 ghost use Rattle.dl_lit.specs.declared.literal.Literal.{Literal};
 ghost use Rattle.dl_theory.specs.Listings.{Mentions};
 ghost use Rattle.dl_net.specs.Named.{IsPaired, IsNear, Grows, HasLiterals, number_in, line_in, HasFacts};
-ghost use Rattle.dl_net.specs.Lines.{line_of};
+ghost use Rattle.dl_net.specs.Counting.{each_once};
+ghost use Rattle.dl_net.specs.Lines.{line_of, once_or, once_list};
 
 use crate::entry::Entry;
 use dl_base::Memory;
 use dl_lit::{Literal, Names};
 use dl_theory::{Rule, Theory};
+use indexmap::IndexSet;
 use std::alloc::Global;
 
-/// Numbers a literal and its complement.
+/// Whether a literal has a number.
+fn has_number(names: &Names, literal: &Literal) -> bool
+    ensures { IsTrue result → Contains names.now.literals literal.now }
+{
+    match names.find(literal) {
+        Some(_) => true,
+        None => false,
+    }
+}
+
+/// Numbers a literal and its complement. Most are there already, and cost a look-up and no copy.
 pub(crate) fn number_literal(names: &mut Names, literal: &Literal) -> Result<(), Memory>
     requires { IsPaired names.old.literals }
     ensures paired { IsPaired names.new.literals }
     ensures grown { Grows (IsNear (literal.now ∷ [])) names.old.literals names.new.literals }
     ensures there { OnOk result (Contains names.new.literals literal.now) }
 {
+    if has_number(names, literal) {
+        return Ok(());
+    }
     names.intern_both(literal)
 }
 
@@ -103,6 +118,7 @@ fn numbers_of(alloc: Global, names: &Names, literals: &[Literal]) -> Result<Vec<
 pub(crate) fn entry_of(alloc: Global, names: &Names, rule: &Rule) -> Result<Entry, Memory>
     requires { HasLiterals names.now.literals rule.now }
     ensures line { IfOk result (λ e. line_of (Some e) ≡ line_in names.now.literals rule.now) }
+    ensures once { IfOk result (λ e. once_list e ≡ each_once e.body.items) }
     ensures short { IfOk result (λ e. length e.body.items < 2 ^ 32) }
 {
     let head = number_of(names, &rule.head)?;
@@ -110,12 +126,55 @@ pub(crate) fn entry_of(alloc: Global, names: &Names, rule: &Rule) -> Result<Entr
     if body.len() > u32::MAX as usize {
         return Err(Memory);
     }
+    let once = once_of(alloc, body.as_slice())?;
     Ok(Entry {
         kind: rule.kind,
         head,
         body,
-        width: 0,
+        once,
     })
+}
+
+/// The numbers, each where it first stands; `None` where none stands twice.
+fn once_of(alloc: Global, numbers: &[u32]) -> Result<Option<Vec<u32>>, Memory>
+    ensures { IfOk result (λ once. once_or once numbers.now ≡ each_once numbers.now) }
+{
+    // most bodies are short and without repeats, and need no memory
+    if numbers.len() <= 8 && once_len(numbers) == numbers.len() {
+        return Ok(None);
+    }
+    let once = firsts(alloc, numbers)?;
+    if once.len() == numbers.len() {
+        return Ok(None);
+    }
+    Ok(Some(once))
+}
+
+/// How many numbers there are, each counted once. Each is sought among those before it, so the list is to be short.
+fn once_len(numbers: &[u32]) -> usize
+    ensures { result ≡ length (each_once numbers.now) }
+{
+    let mut count = 0;
+    for at in 0..numbers.len() {
+        if !numbers[..at].contains(&numbers[at]) {
+            count += 1;
+        }
+    }
+    count
+}
+
+/// The numbers, each where it first stands.
+fn firsts(alloc: Global, numbers: &[u32]) -> Result<Vec<u32>, Memory>
+    ensures { IfOk result (λ once. once.items ≡ each_once numbers.now) }
+{
+    let mut seen = IndexSet::new(alloc);
+    let mut once = Vec::new(alloc);
+    for number in numbers {
+        if seen.insert(*number)? {
+            once.push(*number)?;
+        }
+    }
+    Ok(once)
 }
 
 /// By number, whether the literal is a fact.

@@ -2,32 +2,26 @@
 
 ghost use Rattle.std.specs.Prelude.{◌≡◌, ℕ, ◌+◌, ◌<◌, ◌≤◌, ◌^◌, max, [], ◌∷◌, ◌++◌, All, Some, length, vec_len, vec_capacity, OnOk, if◌then◌else◌, set};
 ghost use Rattle.dl_net.specs.Tables.{list_at, spare_at, KeepsLists};
-ghost use Rattle.dl_net.specs.Counting.{each_once};
 ghost use Rattle.dl_net.specs.Lines.{is_in, list_of, line_of, entry_at, IsWithin, IsKeptEntry};
 
 use crate::entry::Entry;
 use crate::rows::RowTable;
 use dl_base::Memory;
 
-/// The number goes last into the lists of a body's literals, once into each; tells into how many.
-pub(crate) fn put_uses(uses: &mut RowTable, body: &[u32], rule: u32) -> u32
+/// The number goes last into the lists of a body's literals, once into each.
+pub(crate) fn put_uses(uses: &mut RowTable, body: &[u32], rule: u32)
     requires room { All (λ b. 0 < spare_at uses.old b) body.now }
     requires within { All (λ b. b < length uses.old.lists) body.now }
     requires fresh { (n : ℕ) → All (λ s. s < rule) (list_at uses.old n) }
-    requires short { length body.now < 2 ^ 32 }
     ensures lists { (n : ℕ) → list_at uses.new n ≡ list_at uses.old n ++ (if is_in body.now n then rule ∷ [] else []) }
     ensures wide { length uses.new.lists ≡ length uses.old.lists }
-    ensures width { result ≡ length (each_once body.now) }
 {
-    let mut width = 0;
     for number in body {
         let number = *number as usize;
         if !uses.ends_with(number, rule) {
             uses.push(number, rule);
-            width += 1;
         }
     }
-    width
 }
 
 /// Room for one more number in the lists of a body's literals.
@@ -109,8 +103,7 @@ pub(crate) fn put_rule(
     requires uses_room { All (λ b. 0 < spare_at uses.old b) entry.body.items }
     requires within { All (λ b. b < length uses.old.lists) entry.body.items }
     requires fresh { (n : ℕ) → All (λ s. s < length entries.old.items) (list_at uses.old n) }
-    requires short { length entry.body.items < 2 ^ 32 }
-    ensures entries { entries.new.items ≡ entries.old.items ++ Some (record entry { width = length (each_once entry.body.items) }) ∷ [] }
+    ensures entries { entries.new.items ≡ entries.old.items ++ Some entry ∷ [] }
     ensures order { order.new.items ≡ order.old.items ++ length entries.old.items ∷ [] }
     ensures places { places.new.items ≡ places.old.items ++ length order.old.items ∷ [] }
     ensures heads { heads.new.lists ≡ set heads.old.lists entry.head (list_at heads.old entry.head ++ length entries.old.items ∷ []) }
@@ -120,13 +113,7 @@ pub(crate) fn put_rule(
     let rule = entries.len() as u32;
     let place = order.len() as u32;
     heads.push(entry.head as usize, rule);
-    let width = put_uses(uses, entry.body.as_slice(), rule);
-    let entry = Entry {
-        kind: entry.kind,
-        head: entry.head,
-        body: entry.body,
-        width,
-    };
+    put_uses(uses, entry.body.as_slice(), rule);
     entries.push_reserved(Some(entry));
     order.push_reserved(rule);
     places.push_reserved(place);

@@ -3,7 +3,8 @@
 ghost use Rattle.std.specs.Prelude.{◌≡◌, ◌<◌, ◌≤◌, ◌^◌, ◌↔◌, IsTrue, IsSome, Some, true, length, map, slice_get, option_to_list};
 ghost use Rattle.dl_theory.specs.Lists.{can_support, Beats, IsAbove};
 ghost use Rattle.dl_theory.specs.Listings.{Mentions, Occurs};
-ghost use Rattle.dl_net.specs.Numbers.{number, rule_at, literal_at, body_row, backs_row, proves_row, opposes_row, lowers_row, uppers_row, defends_row};
+ghost use Rattle.dl_net.specs.declared.link.Link.TheVariants.{Uses};
+ghost use Rattle.dl_net.specs.Numbers.{back, number, rule_at, literal_at, body_row, backs_row, proves_row, opposes_row, lowers_row, uppers_row, defends_row};
 ghost use Rattle.dl_net.specs.Rows.{row, places};
 ghost use Rattle.dl_net.specs.Named.{head_row, concluded_row};
 
@@ -41,6 +42,13 @@ impl Net {
         ensures { result ≡ slice_get (map (number self.now) (rule_at self.now rule).body) at }
     {
         self.index.body(rule, at)
+    }
+
+    /// The number at a place of a rule's body, each where it first stands; `None` exactly past the end, and where no such rule is.
+    pub fn body_once(&self, rule: usize, at: usize) -> Option<usize>
+        ensures { result ≡ slice_get (back self.now Uses rule) at }
+    {
+        self.index.once(rule, at)
     }
 
     /// Whether the rule at one place is superior to the rule at another.

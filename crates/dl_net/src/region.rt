@@ -46,6 +46,18 @@ impl Region {
         })
     }
 
+    /// No members, below the bound 0. Takes no memory.
+    pub fn none(alloc: Global) -> Region
+        ensures bound { result.bound ≡ 0 }
+        ensures members { result.members ≡ [] }
+    {
+        Region {
+            bound: 0,
+            words: Vec::new(alloc),
+            members: Vec::new(alloc),
+        }
+    }
+
     /// Adds a number at the end, unless it is a member. Takes no memory.
     pub fn put(&mut self, number: usize)
         requires { number < self.old.bound }

@@ -1,4 +1,4 @@
-use Rattle.std.proofs.Common.{◌≡◌, [], ◌∷◌, ◌++◌, ◌+◌, ◌<◌, ◌≤◌, ℕ, List, length, take, map, get_or, sym, ap, subst, ◌∙◌, arith}
+use Rattle.std.proofs.Common.{◌≡◌, [], ◌∷◌, ◌++◌, ◌+◌, ◌<◌, ◌≤◌, ℕ, List, length, take, map, get_or, sym, ap, subst, ◌∙◌}
 use Rattle.std.specs.Prelude.{flat_map}
 use Rattle.std.proofs.lemmas.List.{take_more, take_all}
 use Rattle.dl_theory.specs.declared.rule.Rule.{Rule}
@@ -39,7 +39,6 @@ loop-pair-preserved c =
           ∙ more_steps (lower_step T) T.pairs i p T.rules at is;
       uppers = c.in_ok-load_pair.ensures.uppers (λ t. flat_map (λ q. upper_step T q t) (take i T.pairs)) c.loop-pair.invariant.uppers
           ∙ more_steps (upper_step T) T.pairs i p T.rules at is;
-      wide = omega (arith, c.in_ok-load_pair.ensures.wide, c.loop-pair.invariant.wide);
     }
 
 pub returns-clause-lowers : goal.returns-clause-lowers

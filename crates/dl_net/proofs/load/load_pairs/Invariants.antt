@@ -1,4 +1,4 @@
-use Rattle.std.proofs.Common.{◌≡◌, ◌≤◌, take, map}
+use Rattle.std.proofs.Common.{◌≡◌, take, map}
 use Rattle.std.specs.Prelude.{flat_map}
 use Rattle.dl_net.specs.Above.{lower_step, upper_step}
 use Rattle.dl_net.proofs.load.load_pairs.Given as goal
@@ -8,5 +8,4 @@ invariant-loop-pair l = record {
   lines : l.index.lines ≡ l.fn.index.lines;
   lowers : l.index.lowers ≡ map (λ t. flat_map (λ p. lower_step l.theory p t) (take l.pair-index l.theory.pairs)) l.theory.rules;
   uppers : l.index.uppers ≡ map (λ u. flat_map (λ p. upper_step l.theory p u) (take l.pair-index l.theory.pairs)) l.theory.rules;
-  wide : l.fn.index.width ≤ l.index.width;
 }

@@ -1,12 +1,10 @@
 use Rattle.std.proofs.Common.{◌≡◌, ℕ, ◌+◌, ◌<◌, false, List, [], ◌∷◌, ◌++◌, length, get_or, take, cond, sym, ap, subst, ◌∙◌, arith}
 use Rattle.std.proofs.Math.ListN.{length-set}
-use Rattle.std.proofs.lemmas.List.{take_more, take_all, length-take-le}
+use Rattle.std.proofs.lemmas.List.{take_more}
 use Rattle.std.proofs.lemmas.List.Elements.{All-get_or}
 use Rattle.dl_net.specs.Tables.{Table, list_at, spare_at}
 use Rattle.dl_net.specs.Lines.{is_in}
-use Rattle.dl_net.specs.Counting.{each_once}
-use Rattle.dl_net.proofs.OnceLemmas.{each_once-push_new, each_once-push_old, each_once_shorter}
-use Rattle.dl_net.proofs.PutLemmas.{is_new, is_old, skipped, pushed, room_kept, room_same}
+use Rattle.dl_net.proofs.PutLemmas.{skipped, pushed, room_kept, room_same}
 use Rattle.dl_net.proofs.put.put_uses.Goals as goal
 use Rattle.dl_net.proofs.put.put_uses.Goals.{then-not-ends_with, else-not-ends_with}
 
@@ -34,10 +32,6 @@ loop-number-preserved c =
             (room_kept old now w.push.new.self done b c.loop-number.invariant.room w.push.ensures.room n));
         wide = ap (λ (t : Table). length t.lists) w.uses-is ∙ ap length w.push.ensures.lists
             ∙ length-set now.lists b (list_at now b ++ c.args.rule ∷ []) ∙ c.loop-number.invariant.wide;
-        width = w.width-is
-            ∙ ap (λ k. k + 1) c.loop-number.invariant.width
-            ∙ sym (ap (λ ds. length (each_once ds)) more
-            ∙ each_once-push_new done b (is_new old now done b c.args.rule c.loop-number.invariant.lists (sym c.ends_with.ensures ∙ w.if-not-ends_with.true)));
       }
       | else-not-ends_with w ↦ record {
         lists = λ n.
@@ -49,24 +43,5 @@ loop-number-preserved c =
             (subst (λ (ds : List ℕ). is_in ds n ≡ false → spare_at now n ≡ spare_at old n) (sym more)
             (room_same old now done b c.loop-number.invariant.room n));
         wide = ap (λ (t : Table). length t.lists) w.uses-is ∙ c.loop-number.invariant.wide;
-        width = w.width-is
-            ∙ c.loop-number.invariant.width
-            ∙ sym (ap (λ ds. length (each_once ds)) more
-            ∙ each_once-push_old done b (is_old old now done b c.args.rule c.loop-number.invariant.lists (c.requires.fresh b) (sym c.ends_with.ensures ∙ w.if-not-ends_with.false)));
       }
     ]
-
-pub overflow_add-width : goal.overflow_add-width
-overflow_add-width c =
-    omega (
-      arith,
-      c.loop-number.invariant.width,
-      each_once_shorter (take c.loop-number.number-index c.args.body.now),
-      length-take-le c.loop-number.number-index c.args.body.now (omega (arith, c.loop-number-test.true)),
-      c.loop-number-test.true,
-      c.requires.short,
-    )
-
-pub returns-clause-width : goal.returns-clause-width
-returns-clause-width c =
-    c.loop-number.invariant.width ∙ ap (λ ds. length (each_once ds)) (take_all c.loop-number.number-index c.args.body.now c.loop-number-test.false)

@@ -1,7 +1,6 @@
-use Rattle.std.proofs.Common.{◌≡◌, ℕ, ◌<◌, Option, Some, List, [], ◌∷◌, ◌++◌, length, map, sym, ap, subst, ◌∙◌, arith, refl, length-append}
+use Rattle.std.proofs.Common.{◌≡◌, ℕ, ◌<◌, Option, Some, List, [], ◌∷◌, ◌++◌, length, map, sym, ap, subst, ◌∙◌, arith, length-append}
 use Rattle.std.specs.Prelude.{Contains, option_to_list}
 use Rattle.std.proofs.lemmas.List.Elements.{Contains-append_left, All-contains, All-weaker}
-use Rattle.dl_net.specs.Counting.{each_once}
 use Rattle.dl_net.specs.declared.entry.Entry.{Entry}
 use Rattle.dl_net.specs.declared.entry.Room.{Room}
 use Rattle.dl_net.specs.Tables.{list_at}
@@ -26,10 +25,10 @@ invariant_of-self c =
     let entries : List (Option Entry) = c.self.inside.entries.items in
     let order : List ℕ = c.self.inside.order.items in
     let places : List ℕ = c.self.inside.places.items in
-    let e : Entry = record c.in-ForRule.entry { width = length (each_once c.in-ForRule.entry.body.items) } in
+    let e : Entry = c.in-ForRule.entry in
     let held : HasRules (entries ++ Some e ∷ []) (order ++ length entries ∷ []) (places ++ length order ∷ []) c.put_rule.new.heads c.put_rule.new.uses =
     HasRules-add entries e order places c.self.inside.heads c.self.inside.uses c.put_rule.new.heads c.put_rule.new.uses c.self.invariant.rules
-    room.within refl c.put_rule.ensures.heads c.put_rule.ensures.uses c.put_rule.ensures.uses_same in
+    room.fit c.put_rule.ensures.heads c.put_rule.ensures.uses c.put_rule.ensures.uses_same in
     let linked : HasLinks (length (entries ++ Some e ∷ [])) (order ++ length entries ∷ []) c.self.inside.lowers c.self.inside.uppers =
     HasLinks-more (length entries) (length (entries ++ Some e ∷ [])) order (order ++ length entries ∷ []) c.self.inside.lowers c.self.inside.uppers
     c.self.inside.lowers c.self.inside.uppers (KeepsLists-refl c.self.inside.lowers) (KeepsLists-refl c.self.inside.uppers) c.self.invariant.links
@@ -44,7 +43,7 @@ invariant_of-self c =
 pub returns-clause-lines : goal.returns-clause-lines
 returns-clause-lines c =
     let entries : List (Option Entry) = c.self.inside.entries.items in
-    let e : Entry = record c.in-ForRule.entry { width = length (each_once c.in-ForRule.entry.body.items) } in
+    let e : Entry = c.in-ForRule.entry in
     subst (λ (v : IndexLists). map (line_at c.put_rule.new.entries.items) c.put_rule.new.order.items ≡ v.lines ++ option_to_list v.ready) c.self.view_is
     (ap (λ (es : List (Option Entry)). map (line_at es) c.put_rule.new.order.items) c.put_rule.ensures.entries
     ∙ ap (λ (os : List ℕ). map (line_at (entries ++ Some e ∷ [])) os) c.put_rule.ensures.order

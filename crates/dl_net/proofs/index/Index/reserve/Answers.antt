@@ -64,12 +64,15 @@ invariant_of-self-2 c =
       rules = rw (c.reserve_rule.ensures.entries, c.reserve_rule.ensures.order, c.reserve_rule.ensures.places) held;
       links = rw (c.reserve_rule.ensures.entries, c.reserve_rule.ensures.order) linked;
       room = record {
-        within = (
-          omega (arith, c.reserve_rule.ensures.heads_same, width, c.requires.within.0),
-          All-weaker (λ b. b < c.args.self.now.width) (λ b. b < length c.reserve_rule.new.heads.lists)
-              (λ b lt. omega (arith, lt, c.reserve_rule.ensures.heads_same, width)) c.args.entry.body.items c.requires.within.1,
-        );
-        short = c.requires.short;
+        fit = record {
+          within = (
+            omega (arith, c.reserve_rule.ensures.heads_same, width, c.requires.within.0),
+            All-weaker (λ b. b < c.args.self.now.width) (λ b. b < length c.reserve_rule.new.heads.lists)
+                (λ b lt. omega (arith, lt, c.reserve_rule.ensures.heads_same, width)) c.args.entry.body.items c.requires.within.1,
+          );
+          once = c.requires.once;
+          short = c.requires.short;
+        };
         few = c.in_ok-reserve_rule.ensures.few;
         entries_room = c.in_ok-reserve_rule.ensures.entries_room;
         order_room = c.in_ok-reserve_rule.ensures.order_room;

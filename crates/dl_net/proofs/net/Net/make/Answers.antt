@@ -16,14 +16,13 @@ whole-requires c = record {
   facts_named = subst (λ (T : TheoryLists). All (Contains c.make-names.result.literals) T.facts) (sym c.make-theory.ensures) (All-nil (Contains c.make-names.result.literals));
   facts = record {
     marked = λ n lt. absurd (omega (arith, lt, ap (λ (m : Numbering). length m.literals) c.make-names.ensures));
-    wide = omega (arith, ap (λ (m : Numbering). length m.literals) c.make-names.ensures);
+    within = omega arith;
   };
   lines = ap (λ (x : IndexLists). x.lines) c.make-index.ensures ∙ sym (ap (λ (T : TheoryLists). map (line_in c.make-names.result.literals) T.rules) c.make-theory.ensures);
   lowers = ap (λ (x : IndexLists). x.lowers) c.make-index.ensures
       ∙ sym (ap (λ (T : TheoryLists). map (λ t. flat_map (λ p. lower_step T p t) T.pairs) T.rules) c.make-theory.ensures);
   uppers = ap (λ (x : IndexLists). x.uppers) c.make-index.ensures
       ∙ sym (ap (λ (T : TheoryLists). map (λ t. flat_map (λ p. upper_step T p t) T.pairs) T.rules) c.make-theory.ensures);
-  wide = omega (arith, ap (λ (m : Numbering). length m.literals) c.make-names.ensures);
   frozen = λ e. cc;
 }
 

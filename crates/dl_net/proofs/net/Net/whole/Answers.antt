@@ -11,7 +11,7 @@ invariant_of-result c =
       numbered = numbered_by N c.len-count.ensures.distinct c.requires.paired c.requires.facts_named c.requires.named;
       paired = c.requires.paired;
       tables = tables_by N c.args.facts.items c.args.index c.requires.facts_named c.requires.named c.requires.facts c.requires.lines c.requires.lowers
-          c.requires.uppers c.requires.wide;
+          c.requires.uppers;
       next = tt;
       frozen = c.requires.frozen;
     }
