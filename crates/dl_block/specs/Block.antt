@@ -1,12 +1,15 @@
 -- The defeasible family, where ambiguity blocks: its wires and gates.
-use Rattle.std.specs.Prelude.{ℕ, zero, suc, true, false, cond, List, [], ◌∷◌, length, nat_lt}
+use Rattle.std.specs.Prelude.{ℕ, zero, suc, Bool, true, false, cond, Option, Some, List, [], ◌∷◌, length, nat_lt}
 use Rattle.dl_lit.specs.declared.literal.Family.TheVariants.{Definite, Blocking}
+use Rattle.dl_lit.specs.declared.literal.Tag.{Tag}
 use Rattle.dl_net.specs.Numbers.{NetLists}
 use Rattle.dl_net.specs.declared.link.Link.TheVariants.{Same, Uses, Backs, Opposes, Defends}
 use Rattle.dl_fill.specs.declared.wire.Wire.{Wire}
+use Rattle.dl_fill.specs.declared.basis.Basis.{Basis}
+use Rattle.dl_fill.specs.declared.basis.Basis.TheVariants.{Prevailing, Failing}
 use Rattle.dl_fill.specs.declared.wire.Gate.{Gate}
 use Rattle.dl_fill.specs.declared.wire.Gate.TheVariants.{Every, Either, Never}
-use Rattle.dl_fill.specs.Before.{Before, tag_of, attack_fails, attack_holds, plus_gate, minus_gate}
+use Rattle.dl_fill.specs.Before.{Before, tag_of, attack_fails, attack_holds, outside_is_on, outside_is_off, on_gate, off_gate, plus_gate, minus_gate}
 
 -- kinds: 0 concluded, 1 refuted, 2 supported, 3 unsupported (of a literal);
 -- 4 on, 5 off, 6 answered, 7 on and unanswered (of a rule)
@@ -26,28 +29,34 @@ block_wires =
     ∷ record { from = 7; link = Opposes; to = 1 }
     ∷ []
 
+-- the tags that the kinds of a literal stand for
+abbrev pub block_tags : List (Option Tag)
+block_tags = Some (tag_of true Blocking) ∷ Some (tag_of false Blocking) ∷ []
+
+-- what their gates read of the definite family
+abbrev pub block_bases : List Basis
+block_bases = Prevailing ∷ Failing ∷ []
+
 -- the gate of a literal's node, by its kind
-abbrev pub literal_gate : NetLists → Before → ℕ → ℕ → Gate
-literal_gate N b zero q =
-    plus_gate (b.inside q) (b.marked (tag_of true Definite) q) (attack_fails N b.marked q) (b.marked (tag_of true Blocking) q)
-literal_gate N b (suc zero) q =
-    minus_gate (b.inside q) (b.marked (tag_of false Definite) q) (attack_holds N b.marked q) (b.marked (tag_of false Blocking) q)
-literal_gate N b (suc (suc zero)) q = Either
-literal_gate N b (suc (suc (suc zero))) q = Every
-literal_gate N b (suc (suc (suc (suc _)))) q = Never
+abbrev pub literal_gate : NetLists → (Tag → ℕ → Bool) → ℕ → ℕ → Gate
+literal_gate N marked zero q = plus_gate (marked (tag_of true Definite) q) (attack_fails N marked q)
+literal_gate N marked (suc zero) q = minus_gate (marked (tag_of false Definite) q) (attack_holds N marked q)
+literal_gate N marked (suc (suc zero)) q = Either
+literal_gate N marked (suc (suc (suc zero))) q = Every
+literal_gate N marked (suc (suc (suc (suc _)))) q = Never
 
 -- the gate of a rule's node, by its kind less 4
-abbrev pub rule_gate : ℕ → Gate
-rule_gate zero = Every
-rule_gate (suc zero) = Either
-rule_gate (suc (suc zero)) = Either
-rule_gate (suc (suc (suc zero))) = Every
-rule_gate (suc (suc (suc (suc _)))) = Never
+abbrev pub rule_gate : NetLists → Before → ℕ → ℕ → Gate
+rule_gate N b zero r = on_gate (outside_is_on N b Blocking r)
+rule_gate N b (suc zero) r = off_gate (outside_is_off N b Blocking r)
+rule_gate N b (suc (suc zero)) r = Either
+rule_gate N b (suc (suc (suc zero))) r = Every
+rule_gate N b (suc (suc (suc (suc _)))) r = Never
 
 -- the gate of a node, by its kind and place
 abbrev pub block_gate : NetLists → Before → ℕ → ℕ → Gate
-block_gate N b zero q = cond (nat_lt q (length N.names)) (literal_gate N b 0 q) Never
-block_gate N b (suc zero) q = cond (nat_lt q (length N.names)) (literal_gate N b 1 q) Never
-block_gate N b (suc (suc zero)) q = cond (nat_lt q (length N.names)) (literal_gate N b 2 q) Never
-block_gate N b (suc (suc (suc zero))) q = cond (nat_lt q (length N.names)) (literal_gate N b 3 q) Never
-block_gate N b (suc (suc (suc (suc k)))) r = cond (nat_lt r (length N.theory.rules)) (rule_gate k) Never
+block_gate N b zero q = cond (nat_lt q (length N.names)) (literal_gate N b.marked 0 q) Never
+block_gate N b (suc zero) q = cond (nat_lt q (length N.names)) (literal_gate N b.marked 1 q) Never
+block_gate N b (suc (suc zero)) q = cond (nat_lt q (length N.names)) (literal_gate N b.marked 2 q) Never
+block_gate N b (suc (suc (suc zero))) q = cond (nat_lt q (length N.names)) (literal_gate N b.marked 3 q) Never
+block_gate N b (suc (suc (suc (suc k)))) r = cond (nat_lt r (length N.theory.rules)) (rule_gate N b k r) Never

@@ -1,48 +1,42 @@
 //! A fill of the defeasible family.
 
-ghost use Rattle.std.specs.Prelude.{◌≡◌, ℕ, ◌*◌, ◌/◌, ◌+◌, ◌<◌, ◌≤◌, length};
+ghost use Rattle.std.specs.Prelude.{◌≡◌, ℕ, ◌*◌, ◌/◌, ◌+◌, ◌<◌, ◌≤◌, length, slice_index};
 ghost use Rattle.dl_lit.specs.declared.literal.Family.TheVariants as family;
-ghost use Rattle.dl_marks.specs.Marks.{places};
+ghost use Rattle.dl_marks.specs.Marks.{places, marked};
+ghost use Rattle.dl_net.specs.Counting.{times};
+ghost use Rattle.dl_fill.specs.Idle.{IsIdle};
+ghost use Rattle.dl_fill.specs.Prepared.{all_nodes};
 ghost use Rattle.dl_fill.specs.Before.{before_of};
 ghost use Rattle.dl_fill.specs.Filled.{IsReady, IsFilled, IsRight, IsSolved, HasFired, either_kind};
-ghost use Rattle.dl_block.specs.Block.{literal_gate, rule_gate, block_gate, block_wires};
+ghost use Rattle.dl_block.specs.Block.{literal_gate, rule_gate, block_gate, block_wires, block_tags, block_bases};
 
-use crate::work::{BlockWork, WIDTH};
+use crate::work::{BlockWork, LITERALS, WIDTH};
 use dl_fill::{
-    Counters, Gate, Gates, Wire, attack_fails, attack_holds, gate_of_minus, gate_of_plus,
-    is_inside, solve, write_family,
+    Basis, Gate, Gates, Parts, Wire, attack_fails, attack_holds, gate_of_minus, gate_of_off,
+    gate_of_on, gate_of_plus, outside_is_off, outside_is_on, solve, tidy, write_family,
 };
 use dl_lit::{Family, Tag};
 use dl_marks::{Marks, Steps};
 use dl_net::{Link, Net, Region};
 use std::sync::ledger::Ledger;
 
-fn gate_of_literal(net: &Net, marks: &Marks, region: &Region, kind: usize, number: usize) -> Gate
+fn gate_of_literal(net: &Net, marks: &Marks, kind: usize, number: usize) -> Gate
     requires number { number < length net.now.names }
-    requires bound { region.now.bound ≡ length net.now.names }
     requires room { length net.now.names ≤ places marks.now }
-    ensures { result ≡ literal_gate net.now (before_of marks.now region.now) kind number }
+    ensures { result ≡ literal_gate net.now (marked marks.now) kind number }
 {
-    let surely = Tag {
+    let definite = Tag {
         plus: kind == 0,
         family: Family::Definite,
     };
-    let own = Tag {
-        plus: kind == 0,
-        family: Family::Blocking,
-    };
     match kind {
         0 => gate_of_plus(
-            is_inside(region, number),
-            marks.get(surely, number),
+            marks.get(definite, number),
             attack_fails(net, marks, number),
-            marks.get(own, number),
         ),
         1 => gate_of_minus(
-            is_inside(region, number),
-            marks.get(surely, number),
+            marks.get(definite, number),
             attack_holds(net, marks, number),
-            marks.get(own, number),
         ),
         2 => Gate::Either,
         3 => Gate::Every,
@@ -50,12 +44,14 @@ fn gate_of_literal(net: &Net, marks: &Marks, region: &Region, kind: usize, numbe
     }
 }
 
-fn gate_of_rule(kind: usize) -> Gate
-    ensures { result ≡ rule_gate kind }
+fn gate_of_rule(net: &Net, marks: &Marks, region: &Region, kind: usize, rule: usize) -> Gate
+    requires bound { region.now.bound ≡ length net.now.names }
+    requires room { length net.now.names ≤ places marks.now }
+    ensures { result ≡ rule_gate net.now (before_of marks.now region.now) kind rule }
 {
     match kind {
-        0 => Gate::Every,
-        1 => Gate::Either,
+        0 => gate_of_on(outside_is_on(net, marks, region, Family::Blocking, rule)),
+        1 => gate_of_off(outside_is_off(net, marks, region, Family::Blocking, rule)),
         2 => Gate::Either,
         3 => Gate::Every,
         _ => Gate::Never,
@@ -63,7 +59,7 @@ fn gate_of_rule(kind: usize) -> Gate
 }
 
 /// The gates of the defeasible family.
-struct BlockGates;
+pub struct BlockGates;
 
 impl Gates for BlockGates {
     ghost tells = { λ _ N b k i. block_gate N b k i };
@@ -71,12 +67,12 @@ impl Gates for BlockGates {
     fn gate(&self, net: &Net, marks: &Marks, region: &Region, kind: usize, place: usize) -> Gate {
         if kind < 4 {
             if place < net.names() {
-                gate_of_literal(net, marks, region, kind, place)
+                gate_of_literal(net, marks, kind, place)
             } else {
                 Gate::Never
             }
         } else if place < net.rules_len() {
-            gate_of_rule(kind - 4)
+            gate_of_rule(net, marks, region, kind - 4, place)
         } else {
             Gate::Never
         }
@@ -84,7 +80,7 @@ impl Gates for BlockGates {
 }
 
 /// The wires of the family.
-fn wires() -> [Wire; 12]
+pub fn wires() -> [Wire; 12]
     ensures { result ≡ block_wires }
 {
     [
@@ -103,22 +99,100 @@ fn wires() -> [Wire; 12]
     ]
 }
 
-/// Runs the counters until exactly what follows has fired.
-fn solve_block(net: &Net, marks: &Marks, region: &Region, counters: &mut Counters)
-    requires whole { length counters.old.need / 8 * 8 ≡ length counters.old.need }
-    requires names { length net.now.names ≤ length counters.old.need / 8 }
-    requires rules { length net.now.theory.rules ≤ length counters.old.need / 8 }
+/// The tags that the kinds of a literal stand for.
+pub fn tags() -> [Option<Tag>; 2]
+    ensures { result ≡ block_tags }
+{
+    [
+        Some(Tag {
+            plus: true,
+            family: Family::Blocking,
+        }),
+        Some(Tag {
+            plus: false,
+            family: Family::Blocking,
+        }),
+    ]
+}
+
+/// What their gates read of the definite family.
+pub fn bases() -> [Basis; 2]
+    ensures { result ≡ block_bases }
+{
+    [Basis::Prevailing, Basis::Failing]
+}
+
+/// Runs the counters until exactly what follows in the region has fired.
+fn solve_block(net: &Net, marks: &Marks, region: &Region, places: usize, parts: &mut Parts)
+    requires idle { IsIdle 8 places parts.old.counters parts.old.rules }
+    requires names { length net.now.names ≤ places }
+    requires rules { length net.now.theory.rules ≤ places }
     requires definite { IsRight net.now marks.now family.Definite }
     requires ready { IsReady net.now (λ f. f ≡ family.Blocking) marks.now region.now }
-    ensures solved { IsSolved net.now (HasFired 8 (either_kind 0 1) counters.new) family.Blocking }
-    ensures size { length counters.new.need ≡ length counters.old.need }
+    ensures solved { IsSolved net.now region.now.members (HasFired 8 (either_kind 0 1) parts.new.counters) family.Blocking }
+    ensures idle { (y : ℕ) → times y (all_nodes 8 0 4 region.now.members) ≡ 0 → times y (all_nodes 8 4 4 parts.new.rules.members) ≡ 0 → slice_index parts.new.counters.need y ≡ 0 }
+    ensures size { length parts.new.counters.need ≡ places * 8 }
+    ensures bound { parts.new.rules.bound ≡ places }
 {
     let wires = wires();
     let _names = net.names();
-    solve(&BlockGates, net, WIDTH, &wires, marks, region, counters);
+    let _len = region.len();
+    solve(
+        &BlockGates,
+        net,
+        WIDTH,
+        LITERALS,
+        &wires,
+        marks,
+        region,
+        &mut parts.rules,
+        &mut parts.counters,
+    );
 }
 
-/// Sets exactly the marks of the defeasible family that follow, in a region outside which they are right.
+/// A fill with what it counts with, which is left as it was.
+fn fill_with<L: Ledger>(
+    net: &Net,
+    marks: &mut Marks,
+    region: &Region,
+    places: usize,
+    parts: &mut Parts,
+    steps: &mut Steps<L>,
+)
+    requires idle { IsIdle 8 places parts.old.counters parts.old.rules }
+    requires names { length net.now.names ≤ places }
+    requires rules { length net.now.theory.rules ≤ places }
+    requires definite { IsRight net.now marks.old family.Definite }
+    requires ready { IsReady net.now (λ f. f ≡ family.Blocking) marks.old region.now }
+    ensures filled { IsFilled net.now (λ f. f ≡ family.Blocking) marks.old marks.new }
+    ensures idle { IsIdle 8 places parts.new.counters parts.new.rules }
+    ensures steps { steps.new ≤ steps.old + 2 * length region.now.members }
+{
+    let _len = region.len();
+    solve_block(net, marks, region, places, parts);
+    write_family(
+        &parts.counters,
+        WIDTH,
+        0,
+        1,
+        Family::Blocking,
+        marks,
+        region,
+        steps,
+    );
+    tidy(
+        net,
+        WIDTH,
+        LITERALS,
+        marks,
+        region,
+        &mut parts.rules,
+        &mut parts.counters,
+    );
+}
+
+/// Sets exactly the marks of the defeasible family that follow, in a region outside which they are right. It costs what the region
+/// touches: its literals, the rules for and against them, and their edges.
 pub fn fill_block<L: Ledger>(
     net: &Net,
     marks: &mut Marks,
@@ -135,16 +209,5 @@ pub fn fill_block<L: Ledger>(
     ensures names { work.old.names ≤ work.new.names }
     ensures steps { steps.new ≤ steps.old + 2 * length region.now.members }
 {
-    let _len = region.len();
-    solve_block(net, marks, region, &mut work.counters);
-    write_family(
-        &work.counters,
-        WIDTH,
-        0,
-        1,
-        Family::Blocking,
-        marks,
-        region,
-        steps,
-    );
+    fill_with(net, marks, region, work.places, &mut work.parts, steps);
 }

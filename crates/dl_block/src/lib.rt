@@ -9,5 +9,5 @@
 mod fill;
 mod work;
 
-pub use fill::fill_block;
-pub use work::BlockWork;
+pub use fill::{BlockGates, bases, fill_block, tags, wires};
+pub use work::{BlockWork, LITERALS, WIDTH};

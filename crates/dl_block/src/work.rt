@@ -3,28 +3,33 @@
 ghost use Rattle.std.specs.Prelude.{◌≡◌, ◌≤◌, OnOk};
 
 use dl_base::Memory;
-use dl_fill::Counters;
+use dl_fill::{Parts, make_parts, no_parts};
 use std::alloc::Global;
 use std::marker::Model;
 
 /// How many kinds of nodes the family has.
-pub(crate) const WIDTH: usize = 8;
+pub const WIDTH: usize = 8;
+
+/// How many of them are those of literals.
+pub const LITERALS: usize = 4;
 
 /// Counters for a fill of the defeasible family, with room for so many rules and names. A fill takes no memory.
 #[derive(Drop)]
 pub struct BlockWork {
-    pub(crate) counters: Counters,
+    alloc: Global,
+    pub(crate) places: usize,
+    pub(crate) parts: Parts,
 }
 
 impl Model for BlockWork {
-    ghost use Rattle.std.specs.Prelude.{◌≡◌, ◌*◌, ◌/◌, length};
     ghost use Rattle.dl_fill.specs.Prepared.{Room};
+    ghost use Rattle.dl_fill.specs.Idle.{IsIdle};
 
     ghost Value = { Room };
 
-    ghost view = { λ w. record { rules = length w.counters.need / 8; names = length w.counters.need / 8 } };
+    ghost view = { λ w. record { rules = w.places; names = w.places } };
 
-    ghost invariant = { λ w. length w.counters.need / 8 * 8 ≡ length w.counters.need };
+    ghost invariant = { λ w. IsIdle 8 w.places w.parts.counters w.parts.rules };
 }
 
 impl BlockWork {
@@ -34,7 +39,9 @@ impl BlockWork {
         ensures names { result.names ≡ 0 }
     {
         BlockWork {
-            counters: Counters::make(alloc),
+            alloc,
+            places: 0,
+            parts: no_parts(alloc, WIDTH),
         }
     }
 
@@ -46,6 +53,10 @@ impl BlockWork {
         ensures names { self.old.names ≤ self.new.names }
     {
         let places = if rules < names { names } else { rules };
-        self.counters.reserve(WIDTH, places)
+        if self.places < places {
+            self.parts = make_parts(self.alloc, WIDTH, places)?;
+            self.places = places;
+        }
+        Ok(())
     }
 }

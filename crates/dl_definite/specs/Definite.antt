@@ -1,12 +1,13 @@
 -- The definite family: its wires and gates.
-use Rattle.std.specs.Prelude.{ℕ, zero, suc, true, false, not, cond, List, [], ◌∷◌, length, nat_lt}
+use Rattle.std.specs.Prelude.{ℕ, zero, suc, true, false, not, cond, Option, Some, List, [], ◌∷◌, length, nat_lt}
 use Rattle.dl_lit.specs.declared.literal.Family.TheVariants.{Definite}
+use Rattle.dl_lit.specs.declared.literal.Tag.{Tag}
 use Rattle.dl_net.specs.Numbers.{NetLists, is_fact}
 use Rattle.dl_net.specs.declared.link.Link.TheVariants.{Uses, Proves}
 use Rattle.dl_fill.specs.declared.wire.Wire.{Wire}
 use Rattle.dl_fill.specs.declared.wire.Gate.{Gate}
-use Rattle.dl_fill.specs.declared.wire.Gate.TheVariants.{Every, Either, Never}
-use Rattle.dl_fill.specs.Before.{Before, tag_of, some_gate, each_gate}
+use Rattle.dl_fill.specs.declared.wire.Gate.TheVariants.{Never}
+use Rattle.dl_fill.specs.Before.{Before, tag_of, outside_is_on, outside_is_off, on_gate, off_gate, some_gate, each_gate}
 
 -- kinds: 0 concluded, 1 refuted (of a literal); 2 on, 3 off (of a rule)
 abbrev pub definite_wires : List Wire
@@ -17,10 +18,18 @@ definite_wires =
     ∷ record { from = 3; link = Proves; to = 1 }
     ∷ []
 
+-- the tags that the kinds of a literal stand for
+abbrev pub definite_tags : List (Option Tag)
+definite_tags = Some (tag_of true Definite) ∷ Some (tag_of false Definite) ∷ []
+
+-- the gate of a rule's node, by its kind less 2
+abbrev pub rule_gate : NetLists → Before → ℕ → ℕ → Gate
+rule_gate N b zero r = on_gate (outside_is_on N b Definite r)
+rule_gate N b (suc zero) r = off_gate (outside_is_off N b Definite r)
+rule_gate N b (suc (suc _)) r = Never
+
 -- the gate of a node, by its kind and place: a literal is concluded at once where it is a fact, and never refuted there
 abbrev pub definite_gate : NetLists → Before → ℕ → ℕ → Gate
-definite_gate N b zero q = cond (nat_lt q (length N.names)) (some_gate (b.inside q) (is_fact N q) (b.marked (tag_of true Definite) q)) Never
-definite_gate N b (suc zero) q = cond (nat_lt q (length N.names)) (each_gate (b.inside q) (not (is_fact N q)) (b.marked (tag_of false Definite) q)) Never
-definite_gate N b (suc (suc zero)) r = cond (nat_lt r (length N.theory.rules)) Every Never
-definite_gate N b (suc (suc (suc zero))) r = cond (nat_lt r (length N.theory.rules)) Either Never
-definite_gate N b (suc (suc (suc (suc _)))) r = Never
+definite_gate N b zero q = cond (nat_lt q (length N.names)) (some_gate (is_fact N q)) Never
+definite_gate N b (suc zero) q = cond (nat_lt q (length N.names)) (each_gate (not (is_fact N q))) Never
+definite_gate N b (suc (suc k)) r = cond (nat_lt r (length N.theory.rules)) (rule_gate N b k r) Never

@@ -1,15 +1,19 @@
 //! A fill of the definite family.
 
-ghost use Rattle.std.specs.Prelude.{◌≡◌, ℕ, ◌*◌, ◌/◌, ◌+◌, ◌<◌, ◌≤◌, length};
+ghost use Rattle.std.specs.Prelude.{◌≡◌, ℕ, ◌*◌, ◌/◌, ◌+◌, ◌<◌, ◌≤◌, length, slice_index};
 ghost use Rattle.dl_lit.specs.declared.literal.Family.TheVariants as family;
 ghost use Rattle.dl_marks.specs.Marks.{places};
+ghost use Rattle.dl_net.specs.Counting.{times};
+ghost use Rattle.dl_fill.specs.Idle.{IsIdle};
+ghost use Rattle.dl_fill.specs.Prepared.{all_nodes};
 ghost use Rattle.dl_fill.specs.Before.{before_of};
 ghost use Rattle.dl_fill.specs.Filled.{IsReady, IsFilled, IsSolved, HasFired, either_kind};
-ghost use Rattle.dl_definite.specs.Definite.{definite_gate, definite_wires};
+ghost use Rattle.dl_definite.specs.Definite.{rule_gate, definite_gate, definite_wires, definite_tags};
 
-use crate::work::{DefiniteWork, WIDTH};
+use crate::work::{DefiniteWork, LITERALS, WIDTH};
 use dl_fill::{
-    Counters, Gate, Gates, Wire, gate_of_each, gate_of_some, is_inside, solve, write_family,
+    Gate, Gates, Parts, Wire, gate_of_each, gate_of_off, gate_of_on, gate_of_some, outside_is_off,
+    outside_is_on, solve, tidy, write_family,
 };
 use dl_lit::{Family, Tag};
 use dl_marks::{Marks, Steps};
@@ -17,64 +21,45 @@ use dl_net::{Link, Net, Region};
 use std::sync::ledger::Ledger;
 
 /// The gates of the definite family.
-struct DefiniteGates;
+pub struct DefiniteGates;
 
 impl Gates for DefiniteGates {
     ghost tells = { λ _ N b k i. definite_gate N b k i };
 
     fn gate(&self, net: &Net, marks: &Marks, region: &Region, kind: usize, place: usize) -> Gate {
-        match kind {
-            0 => {
-                if place < net.names() {
-                    let tag = Tag {
-                        plus: true,
-                        family: Family::Definite,
-                    };
-                    gate_of_some(
-                        is_inside(region, place),
-                        net.is_fact(place),
-                        marks.get(tag, place),
-                    )
+        if kind < 2 {
+            if place < net.names() {
+                let fact = net.is_fact(place);
+                if kind == 0 {
+                    gate_of_some(fact)
                 } else {
-                    Gate::Never
+                    gate_of_each(!fact)
                 }
+            } else {
+                Gate::Never
             }
-            1 => {
-                if place < net.names() {
-                    let tag = Tag {
-                        plus: false,
-                        family: Family::Definite,
-                    };
-                    gate_of_each(
-                        is_inside(region, place),
-                        !net.is_fact(place),
-                        marks.get(tag, place),
-                    )
-                } else {
-                    Gate::Never
-                }
-            }
-            2 => {
-                if place < net.rules_len() {
-                    Gate::Every
-                } else {
-                    Gate::Never
-                }
-            }
-            3 => {
-                if place < net.rules_len() {
-                    Gate::Either
-                } else {
-                    Gate::Never
-                }
-            }
-            _ => Gate::Never,
+        } else if place < net.rules_len() {
+            gate_of_rule(net, marks, region, kind - 2, place)
+        } else {
+            Gate::Never
         }
     }
 }
 
+fn gate_of_rule(net: &Net, marks: &Marks, region: &Region, kind: usize, rule: usize) -> Gate
+    requires bound { region.now.bound ≡ length net.now.names }
+    requires room { length net.now.names ≤ places marks.now }
+    ensures { result ≡ rule_gate net.now (before_of marks.now region.now) kind rule }
+{
+    match kind {
+        0 => gate_of_on(outside_is_on(net, marks, region, Family::Definite, rule)),
+        1 => gate_of_off(outside_is_off(net, marks, region, Family::Definite, rule)),
+        _ => Gate::Never,
+    }
+}
+
 /// The wires of the family.
-fn wires() -> [Wire; 4]
+pub fn wires() -> [Wire; 4]
     ensures { result ≡ definite_wires }
 {
     [
@@ -85,21 +70,91 @@ fn wires() -> [Wire; 4]
     ]
 }
 
-/// Runs the counters until exactly what follows has fired.
-fn solve_definite(net: &Net, marks: &Marks, region: &Region, counters: &mut Counters)
-    requires whole { length counters.old.need / 4 * 4 ≡ length counters.old.need }
-    requires names { length net.now.names ≤ length counters.old.need / 4 }
-    requires rules { length net.now.theory.rules ≤ length counters.old.need / 4 }
+/// The tags that the kinds of a literal stand for.
+pub fn tags() -> [Option<Tag>; 2]
+    ensures { result ≡ definite_tags }
+{
+    [
+        Some(Tag {
+            plus: true,
+            family: Family::Definite,
+        }),
+        Some(Tag {
+            plus: false,
+            family: Family::Definite,
+        }),
+    ]
+}
+
+/// Runs the counters until exactly what follows in the region has fired.
+fn solve_definite(net: &Net, marks: &Marks, region: &Region, places: usize, parts: &mut Parts)
+    requires idle { IsIdle 4 places parts.old.counters parts.old.rules }
+    requires names { length net.now.names ≤ places }
+    requires rules { length net.now.theory.rules ≤ places }
     requires ready { IsReady net.now (λ f. f ≡ family.Definite) marks.now region.now }
-    ensures solved { IsSolved net.now (HasFired 4 (either_kind 0 1) counters.new) family.Definite }
-    ensures size { length counters.new.need ≡ length counters.old.need }
+    ensures solved { IsSolved net.now region.now.members (HasFired 4 (either_kind 0 1) parts.new.counters) family.Definite }
+    ensures idle { (y : ℕ) → times y (all_nodes 4 0 2 region.now.members) ≡ 0 → times y (all_nodes 4 2 2 parts.new.rules.members) ≡ 0 → slice_index parts.new.counters.need y ≡ 0 }
+    ensures size { length parts.new.counters.need ≡ places * 4 }
+    ensures bound { parts.new.rules.bound ≡ places }
 {
     let wires = wires();
     let _names = net.names();
-    solve(&DefiniteGates, net, WIDTH, &wires, marks, region, counters);
+    let _len = region.len();
+    solve(
+        &DefiniteGates,
+        net,
+        WIDTH,
+        LITERALS,
+        &wires,
+        marks,
+        region,
+        &mut parts.rules,
+        &mut parts.counters,
+    );
 }
 
-/// Sets exactly the marks of the definite family that follow, in a region outside which they are right.
+/// A fill with what it counts with, which is left as it was.
+fn fill_with<L: Ledger>(
+    net: &Net,
+    marks: &mut Marks,
+    region: &Region,
+    places: usize,
+    parts: &mut Parts,
+    steps: &mut Steps<L>,
+)
+    requires idle { IsIdle 4 places parts.old.counters parts.old.rules }
+    requires names { length net.now.names ≤ places }
+    requires rules { length net.now.theory.rules ≤ places }
+    requires ready { IsReady net.now (λ f. f ≡ family.Definite) marks.old region.now }
+    ensures filled { IsFilled net.now (λ f. f ≡ family.Definite) marks.old marks.new }
+    ensures idle { IsIdle 4 places parts.new.counters parts.new.rules }
+    ensures steps { steps.new ≤ steps.old + 2 * length region.now.members }
+{
+    let _len = region.len();
+    solve_definite(net, marks, region, places, parts);
+    write_family(
+        &parts.counters,
+        WIDTH,
+        0,
+        1,
+        Family::Definite,
+        marks,
+        region,
+        steps,
+    );
+    tidy(
+        net,
+        WIDTH,
+        LITERALS,
+        marks,
+        region,
+        &mut parts.rules,
+        &mut parts.counters,
+    );
+}
+
+/// Sets exactly the marks of the definite family that follow, in a region outside which they are right. It costs what the region
+/// touches: its literals, the rules for and against them, and their edges.
 pub fn fill_definite<L: Ledger>(
     net: &Net,
     marks: &mut Marks,
@@ -115,16 +170,5 @@ pub fn fill_definite<L: Ledger>(
     ensures names { work.old.names ≤ work.new.names }
     ensures steps { steps.new ≤ steps.old + 2 * length region.now.members }
 {
-    let _len = region.len();
-    solve_definite(net, marks, region, &mut work.counters);
-    write_family(
-        &work.counters,
-        WIDTH,
-        0,
-        1,
-        Family::Definite,
-        marks,
-        region,
-        steps,
-    );
+    fill_with(net, marks, region, work.places, &mut work.parts, steps);
 }

@@ -1,5 +1,5 @@
 -- What one literal attacks, where each is attacked by its complement alone.
-use Rattle.std.proofs.Common.{◌≡◌, [], ◌∷◌, sym, subst, ap, refl, ◌∙◌, arith}
+use Rattle.std.proofs.Common.{◌≡◌, sym, ap, ◌∙◌, arith}
 use Rattle.std.specs.Prelude.{Contains}
 use Rattle.dl_base.proofs.Members.{only}
 use Rattle.dl_lit.specs.declared.literal.Literal.{Literal}

@@ -1,53 +1,53 @@
 -- The counters before the run, one node at a time; and the run itself.
-use Rattle.std.proofs.Common.{◌≡◌, ◌≢◌, ℕ, zero, suc, ◌+◌, ◌*◌, ◌<◌, ◌≤◌, Bool, true, false, cond, List, [], ◌∷◌, ◌++◌, length, map, take, get_or, set, inl, inr, sym, subst, ap, refl, ◌∙◌, arith, length-append, length-set, append_assoc, true≢false}
+use Rattle.std.proofs.Common.{◌≡◌, ◌≢◌, ℕ, zero, suc, ◌+◌, ◌<◌, ◌≤◌, Bool, true, false, cond, List, [], ◌∷◌, ◌++◌, length, take, get_or, inl, inr, sym, ap, refl, ◌∙◌, arith, length-append, append_assoc, true≢false}
 use Rattle.std.specs.Prelude.{nat_lt}
-use Rattle.std.proofs.lemmas.Bool.{cases_eq, cases_lt, eq-eqb, ne_eqb}
-use Rattle.std.proofs.lemmas.List.{take_more, get_or-set_same, get_or-set_other, append-nil}
-use Rattle.std.proofs.lemmas.List.Sums.{sum_by-set}
+use Rattle.std.proofs.lemmas.Bool.{cases_lt, eq-eqb, ne_eqb}
+use Rattle.std.proofs.lemmas.List.{take_more, append-nil}
 use Rattle.dl_net.specs.Counting.{times}
 use Rattle.dl_fill.specs.Counters.{CounterLists}
 use Rattle.dl_fill.proofs.Times.{times_push_same, times_push_other}
 use Rattle.dl_fill.proofs.Engine.{IsClosedFrom, IsRun, IsSettled, run_pops, run_ends, length-hits}
-use Rattle.dl_net.specs.Numbers.{NetLists, back}
+use Rattle.dl_net.specs.Numbers.{NetLists}
 use Rattle.dl_fill.specs.declared.wire.Wire.{Wire}
 use Rattle.dl_fill.specs.declared.wire.Gate.{Gate}
 use Rattle.dl_fill.specs.declared.wire.Gate.TheVariants.{Every, Either, Now, Never}
-use Rattle.dl_fill.specs.Wires.{through, inputs_by, inputs_at}
-use Rattle.dl_fill.specs.Gates.{hits_of, now_of, awaited, at_once}
+use Rattle.dl_fill.specs.Wires.{through, inner, inputs_by, inputs_at}
+use Rattle.dl_fill.specs.Gates.{hits_of, now_of, at_once}
 use Rattle.dl_fill.specs.Prepared.{begun, one_if, IsBegun}
 use Rattle.dl_fill.specs.Runs.{Fires, IsRunOut}
 use Rattle.dl_fill.proofs.Network.{start, given, free}
-use Rattle.dl_fill.proofs.Hits.{length-made, times-get_or}
+use Rattle.dl_fill.proofs.Hits.{length-made}
+use Rattle.dl_fill.proofs.Times.{times-get_or}
 
-module _ (N : NetLists) (s : ℕ) where
-  inputs-append : (xs ys : List Wire) (k j : ℕ) → inputs_at N s (xs ++ ys) k j ≡ inputs_at N s xs k j ++ inputs_at N s ys k j
+module _ (N : NetLists) (inside : ℕ → Bool) (s : ℕ) where
+  inputs-append : (xs ys : List Wire) (k j : ℕ) → inputs_at N inside s (xs ++ ys) k j ≡ inputs_at N inside s xs k j ++ inputs_at N inside s ys k j
   inputs-append [] ys k j = refl
   inputs-append (w ∷ ws) ys k j =
-      ap (λ (r : List ℕ). inputs_by N s k j w ++ r) (inputs-append ws ys k j) ∙ sym (append_assoc (inputs_by N s k j w) (inputs_at N s ws k j) (inputs_at N s ys k j))
+      ap (λ (r : List ℕ). inputs_by N inside s k j w ++ r) (inputs-append ws ys k j) ∙ sym (append_assoc (inputs_by N inside s k j w) (inputs_at N inside s ws k j) (inputs_at N inside s ys k j))
 
   inputs_more : (wires : List Wire) (i : ℕ) (d : Wire) (k j : ℕ) → i < length wires
-      → length (inputs_at N s (take (i + 1) wires) k j) ≡ length (inputs_at N s (take i wires) k j) + length (inputs_by N s k j (get_or wires i d))
+      → length (inputs_at N inside s (take (i + 1) wires) k j) ≡ length (inputs_at N inside s (take i wires) k j) + length (inputs_by N inside s k j (get_or wires i d))
   inputs_more wires i d k j lt =
-      ap (λ (ws : List Wire). length (inputs_at N s ws k j)) (take_more wires i d lt)
+      ap (λ (ws : List Wire). length (inputs_at N inside s ws k j)) (take_more wires i d lt)
       ∙ ap length (inputs-append (take i wires) (get_or wires i d ∷ []) k j)
-      ∙ length-append (inputs_at N s (take i wires) k j) (inputs_by N s k j (get_or wires i d) ++ [])
-      ∙ ap (λ (xs : List ℕ). length (inputs_at N s (take i wires) k j) + length xs) (append-nil (inputs_by N s k j (get_or wires i d)))
+      ∙ length-append (inputs_at N inside s (take i wires) k j) (inputs_by N inside s k j (get_or wires i d) ++ [])
+      ∙ ap (λ (xs : List ℕ). length (inputs_at N inside s (take i wires) k j) + length xs) (append-nil (inputs_by N inside s k j (get_or wires i d)))
 
   pub inputs_come : (wires : List Wire) (i : ℕ) (d : Wire) (k j : ℕ) → i < length wires → (get_or wires i d).to ≡ k
-      → length (inputs_at N s (take (i + 1) wires) k j) ≡ length (inputs_at N s (take i wires) k j) + length (back N (get_or wires i d).link j)
+      → length (inputs_at N inside s (take (i + 1) wires) k j) ≡ length (inputs_at N inside s (take i wires) k j) + length (inner N inside (get_or wires i d).link j)
   inputs_come wires i d k j lt e =
       inputs_more wires i d k j lt
-      ∙ ap (λ (b : Bool). length (inputs_at N s (take i wires) k j) + length (cond b (through s (get_or wires i d).from (back N (get_or wires i d).link j)) [])) (eq-eqb (get_or wires i d).to k e)
-      ∙ ap (λ (n : ℕ). length (inputs_at N s (take i wires) k j) + n) (length-made s (get_or wires i d).from (back N (get_or wires i d).link j))
+      ∙ ap (λ (b : Bool). length (inputs_at N inside s (take i wires) k j) + length (cond b (through s (get_or wires i d).from (inner N inside (get_or wires i d).link j)) [])) (eq-eqb (get_or wires i d).to k e)
+      ∙ ap (λ (n : ℕ). length (inputs_at N inside s (take i wires) k j) + n) (length-made s (get_or wires i d).from (inner N inside (get_or wires i d).link j))
 
   pub inputs_stay : (wires : List Wire) (i : ℕ) (d : Wire) (k j : ℕ) → i < length wires → ((get_or wires i d).to ≡ k → ⊥)
-      → length (inputs_at N s (take (i + 1) wires) k j) ≡ length (inputs_at N s (take i wires) k j)
+      → length (inputs_at N inside s (take (i + 1) wires) k j) ≡ length (inputs_at N inside s (take i wires) k j)
   inputs_stay wires i d k j lt n =
       inputs_more wires i d k j lt
-      ∙ ap (λ (b : Bool). length (inputs_at N s (take i wires) k j) + length (cond b (through s (get_or wires i d).from (back N (get_or wires i d).link j)) [])) (ne_eqb (get_or wires i d).to k n)
+      ∙ ap (λ (b : Bool). length (inputs_at N inside s (take i wires) k j) + length (cond b (through s (get_or wires i d).from (inner N inside (get_or wires i d).link j)) [])) (ne_eqb (get_or wires i d).to k n)
       ∙ omega arith
 
-one_or_other : (g : Gate) (n : ℕ) → one_if (nat_lt 0 (hits_of g n)) + one_if (now_of g n) ≤ 1
+pub one_or_other : (g : Gate) (n : ℕ) → one_if (nat_lt 0 (hits_of g n)) + one_if (now_of g n) ≤ 1
 one_or_other Every zero = omega arith
 one_or_other Every (suc n) = le_one (now_of Every (suc n)) (ne_eqb (suc n) 0 (λ e. omega arith)) (nat_lt 0 (suc n))
   where
@@ -59,53 +59,19 @@ one_or_other Either n = omega arith
 one_or_other Now n = omega arith
 one_or_other Never n = omega arith
 
-push_same : (y : ℕ) (xs : List ℕ) (b : Bool) → times y (cond b (xs ++ y ∷ []) xs) ≡ times y xs + one_if b
+pub push_same : (y : ℕ) (xs : List ℕ) (b : Bool) → times y (cond b (xs ++ y ∷ []) xs) ≡ times y xs + one_if b
 push_same y xs true = times_push_same y y xs refl
 push_same y xs false = omega arith
 
-push_other : (y z : ℕ) (xs : List ℕ) (b : Bool) → y ≢ z → times y (cond b (xs ++ z ∷ []) xs) ≡ times y xs
+pub push_other : (y z : ℕ) (xs : List ℕ) (b : Bool) → y ≢ z → times y (cond b (xs ++ z ∷ []) xs) ≡ times y xs
 push_other y z xs true n = times_push_other y z xs n
 push_other y z xs false n = refl
 
-length_push_if : (z : ℕ) (xs : List ℕ) (b : Bool) → length (cond b (xs ++ z ∷ []) xs) ≡ length xs + one_if b
+pub length_push_if : (z : ℕ) (xs : List ℕ) (b : Bool) → length (cond b (xs ++ z ∷ []) xs) ≡ length xs + one_if b
 length_push_if z xs true = length-append xs (z ∷ [])
 length_push_if z xs false = omega arith
 
 module _ (inputs : ℕ → List ℕ) (gate : ℕ → Gate) where
-  pub begun_step : (n : ℕ) (w : CounterLists) → n < length w.need → IsBegun inputs gate n w
-      → IsBegun inputs gate (n + 1) (begun w n (hits_of (gate n) (length (inputs n))) (now_of (gate n) (length (inputs n))))
-  begun_step n w lt h =
-      let hits : ℕ = hits_of (gate n) (length (inputs n)) in
-      let now : Bool = now_of (gate n) (length (inputs n)) in
-      record {
-        need_below = λ y below. elim (cases_eq y n) [
-          | inl same ↦
-              subst (λ (v : ℕ). get_or (set w.need n (hits_of (gate n) (length (inputs n)))) v 0 ≡ awaited (gate v) (inputs v)) (sym same)
-              (get_or-set_same w.need n (hits_of (gate n) (length (inputs n))) 0 lt)
-          | inr other ↦ get_or-set_other w.need n y (hits_of (gate n) (length (inputs n))) 0 other ∙ h.need_below y (omega arith)
-        ];
-        need_above = λ y above. get_or-set_other w.need n y (hits_of (gate n) (length (inputs n))) 0 (λ e. omega arith) ∙ h.need_above y (omega arith);
-        queue_below = λ y below. elim (cases_eq y n) [
-          | inl same ↦
-              subst (λ (v : ℕ). times v (cond (now_of (gate n) (length (inputs n))) (w.queue ++ n ∷ []) w.queue) ≡ one_if (at_once (gate v) (inputs v))) (sym same)
-              (push_same n w.queue (now_of (gate n) (length (inputs n))) ∙ omega (arith, h.queue_above n (omega arith)))
-          | inr other ↦ push_other y n w.queue (now_of (gate n) (length (inputs n))) other ∙ h.queue_below y (omega arith)
-        ];
-        queue_above = λ y above. push_other y n w.queue (now_of (gate n) (length (inputs n))) (λ e. omega arith) ∙ h.queue_above y (omega arith);
-        few =
-            let s = sum_by-set (λ (m : ℕ). cond (nat_lt 0 m) 1 0) w.need n (hits_of (gate n) (length (inputs n))) 0 lt in
-            let z : one_if (nat_lt 0 (get_or w.need n 0)) ≡ 0 = ap (λ (m : ℕ). one_if (nat_lt 0 m)) (h.need_above n (omega arith)) in
-            omega (arith, s, z, one_or_other (gate n) (length (inputs n)), length_push_if n w.queue (now_of (gate n) (length (inputs n))), h.few);
-      }
-
-  -- the same, from what the parts gave
-  pub begun_next : (n : ℕ) (w v : CounterLists) (g : Gate) (i : ℕ) → n < length w.need → IsBegun inputs gate n w
-      → v ≡ begun w n (hits_of g i) (now_of g i) → g ≡ gate n → i ≡ length (inputs n) → IsBegun inputs gate (n + 1) v × (length v.need ≡ length w.need)
-  begun_next n w v g i lt h e f k =
-      let same : v ≡ begun w n (hits_of (gate n) (length (inputs n))) (now_of (gate n) (length (inputs n))) =
-      e ∙ ap (λ (x : Gate). begun w n (hits_of x i) (now_of x i)) f ∙ ap (λ (m : ℕ). begun w n (hits_of (gate n) m) (now_of (gate n) m)) k in
-      (subst (IsBegun inputs gate (n + 1)) (sym same) (begun_step n w lt h), ap (λ (x : CounterLists). length x.need) same ∙ length-set _ _ _)
-
   module _ (edges : ℕ → List ℕ) (Means : ℕ → Type 0) (closed : IsClosedFrom (start inputs gate) (given inputs gate) (free inputs gate) edges Means) where
     ones : (b : Bool) → 0 < one_if b → b ≡ true
     ones true h = refl
@@ -145,6 +111,7 @@ module _ (inputs : ℕ → List ℕ) (gate : ℕ → Gate) where
           };
           within = omega arith;
           means = λ y m. closed.at_once y (is_given y m);
+          order = λ i lt. (0, omega arith, omega arith, inl (is_given (get_or w.queue i 0) (times-get_or w.queue i 0 lt)));
         }
 
     pub run_fires : (v : CounterLists) → IsRun (start inputs gate) (given inputs gate) (free inputs gate) edges Means 0 v

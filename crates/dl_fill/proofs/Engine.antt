@@ -1,14 +1,14 @@
 -- What the counters and the queue say after a list of hits.
 use Rattle.std.proofs.Common.{◌≡◌, ◌≢◌, ℕ, ◌+◌, ◌-◌, ◌<◌, ◌≤◌, ◌==◌, cond, Bool, true, false, List, [], ◌∷◌, ◌++◌, length, get_or, set, take, length-append, inl, inr, ◌⊎◌, sym, subst, ap, refl, ◌∙◌, arith, append_assoc, length-set}
 use Rattle.std.specs.List.{flat_map, fold}
-use Rattle.std.proofs.lemmas.Bool.{cases_eq}
+use Rattle.std.proofs.lemmas.Bool.{cases_eq, cases_lt}
 use Rattle.std.proofs.lemmas.Bool.Decides.{eqb_tells}
-use Rattle.std.proofs.lemmas.List.{append-nil, get_or-set_other, get_or-set_same, take_more, take-append-le, take_all}
+use Rattle.std.proofs.lemmas.List.{append-nil, get_or-set_other, get_or-set_same, get_or_append_left, take_more, take-append-le, take_all}
 use Rattle.std.proofs.lemmas.List.Concat.{flat_map-cons}
 use Rattle.std.proofs.lemmas.Grind.{flat_map-append}
 use Rattle.dl_net.specs.Counting.{times}
 use Rattle.dl_fill.specs.Counters.{CounterLists, hit}
-use Rattle.dl_fill.proofs.Times.{times-append, times_push_same, times_push_other, times_cons_same, times-take}
+use Rattle.dl_fill.proofs.Times.{times-append, times_push_same, times_push_other, times_cons_same, times-take, times-get_or}
 
 module _ (start : ℕ → ℕ) (given : ℕ → Bool) where
   -- y is given at once, or waited for hits, which have come
@@ -195,6 +195,8 @@ module _ (start : ℕ → ℕ) (given : ℕ → Bool) (free : (y : ℕ) → give
       pub counts : Counts start given (flat_map edges (take head w.queue)) w
       pub within : head ≤ length w.queue
       pub means : (y : ℕ) → 0 < times y w.queue → Means y
+      pub order : (i : ℕ) → i < length w.queue
+          → (m : ℕ) × (m ≤ i) × (m ≤ head) × IsReached start given (flat_map edges (take m w.queue)) (get_or w.queue i 0)
 
     pub run_pops : IsClosedFrom → (head : ℕ) (w : CounterLists) → head < length w.queue
         → ((y : ℕ) → 0 < times y (edges (get_or w.queue head 0)) → y < length w.need)
@@ -223,12 +225,35 @@ module _ (start : ℕ → ℕ) (given : ℕ → Bool) (free : (y : ℕ) → give
                 (λ z n. r.means z (omega (arith, n, times-take z (head + 1) w.queue))) y h.0
                 (subst (λ (hits : List ℕ). start y ≤ times y hits) (sym front) h.1)
           ];
+          order = λ i within. elim (cases_lt i (length w.queue)) [
+            | inl old ↦
+                let o = r.order i old in
+                let taken : take o.0 (w.queue ++ grown.0) ≡ take o.0 w.queue = take-append-le o.0 w.queue grown.0 (omega (arith, o.2, r.within)) in (
+                  o.0,
+                  o.1,
+                  omega (arith, o.2),
+                  subst (λ (q : List ℕ). IsReached start given (flat_map edges (take o.0 q)) (get_or q i 0)) (sym grown.1)
+                      (subst (λ (front : List ℕ). IsReached start given (flat_map edges front) (get_or (w.queue ++ grown.0) i 0)) (sym taken)
+                      (subst (λ (y : ℕ). IsReached start given (flat_map edges (take o.0 w.queue)) y)
+                      (sym (get_or_append_left w.queue grown.0 0 i old)) o.3)),
+                )
+            | inr late ↦ (
+              head + 1,
+              omega (arith, lt, late),
+              omega arith,
+              subst (λ (hits : List ℕ). IsReached start given hits (get_or (fold hit w (edges (get_or w.queue head 0))).queue i 0)) (sym all)
+                  (c.sound (get_or (fold hit w (edges (get_or w.queue head 0))).queue i 0)
+                  (times-get_or (fold hit w (edges (get_or w.queue head 0))).queue i 0 within)),
+            )
+          ];
         }
 
-    -- at the end a node stands in the queue exactly if it is reached by hits from the queue
+    -- at the end a node stands in the queue exactly if it is reached by hits from the queue, and it is reached from those before it
     pub record IsSettled (w : CounterLists) : Type 0 where
       pub once : (y : ℕ) → times y w.queue ≤ 1
       pub means : (y : ℕ) → 0 < times y w.queue → Means y
+      pub inside : (y : ℕ) → 0 < times y w.queue → y < length w.need
+      pub order : (i : ℕ) → i < length w.queue → (m : ℕ) × (m ≤ i) × IsReached start given (flat_map edges (take m w.queue)) (get_or w.queue i 0)
       pub complete : (y : ℕ) → y < length w.need → IsReached start given (flat_map edges w.queue) y → 0 < times y w.queue
 
     pub run_ends : (head : ℕ) (w : CounterLists) → length w.queue ≤ head → IsRun head w → IsSettled w
@@ -237,5 +262,7 @@ module _ (start : ℕ → ℕ) (given : ℕ → Bool) (free : (y : ℕ) → give
         record {
           once = r.counts.once;
           means = r.means;
+          inside = r.counts.inside;
+          order = λ i lt. let o = r.order i lt in (o.0, o.1, o.3);
           complete = λ y lt h. r.counts.complete y lt (subst (λ (hits : List ℕ). IsReached start given hits y) (sym e) h);
         }

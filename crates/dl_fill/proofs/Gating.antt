@@ -1,8 +1,13 @@
 -- What gates of rules and literals say of the nodes below them, over a family and the family that its attackers are judged by. A lemma
 -- that ends in _sound goes from nodes to their meaning, one that ends in _passes from a meaning to the gate.
-use Rattle.std.proofs.Common.{◌≡◌, ℕ, ◌+◌, ◌*◌, ◌<◌, Bool, true, false, cond, List, [], ◌∷◌, ◌++◌, length, get_or, inl, inr, ◌⊎◌, sym, subst, refl, arith, true≢false}
-use Rattle.std.specs.Prelude.{All, Any, Contains, nat_lt}
-use Rattle.std.proofs.lemmas.Bool.{ltb-true, lt-ltb}
+use Rattle.std.proofs.Common.{◌≡◌, ℕ, ◌+◌, ◌*◌, ◌<◌, ◌&&◌, ◌||◌, Bool, true, false, cond, List, [], ◌∷◌, ◌++◌, length, get_or, inl, inr, ◌⊎◌, sym, subst, ap, refl, ◌∙◌, arith, true≢false}
+use Rattle.std.specs.Prelude.{All, Any, nat_lt, not, filter}
+use Rattle.std.specs.List.{list_all, list_any}
+use Rattle.dl_theory.specs.Derivations.{Follows}
+use Rattle.dl_fill.specs.Before.{Before, tag_of, outside_is_on, outside_is_off, on_gate, off_gate, IsExactOutside}
+use Rattle.dl_fill.proofs.Times.{times_cons_same, times_cons_other}
+use Rattle.dl_fill.proofs.Once.{times-filter_le, times-filter_kept}
+use Rattle.std.proofs.lemmas.Bool.{cases_eq, ltb-true, lt-ltb}
 use Rattle.std.proofs.lemmas.List.Elements.{All-contains}
 use Rattle.dl_lit.specs.declared.literal.Literal.{Literal}
 use Rattle.dl_lit.specs.declared.literal.Tagged.{Tagged}
@@ -31,57 +36,96 @@ pub close_gate : (P : ℕ → Type 0) (b : Bool) (g : Gate) (xs : List ℕ) → 
 close_gate P true g xs e h = h
 close_gate P false g xs e h = absurd (true≢false (sym e))
 
+-- one way or the other
+pub known : (x : Bool) → (x ≡ true) ⊎ (x ≡ false)
+known true = inl refl
+known false = inr refl
+
+on_cases : (P : ℕ → Type 0) (o : Bool) (xs : List ℕ) → Passes P (on_gate o) xs → (o ≡ true) × ((x : ℕ) → 0 < times x xs → P x)
+on_cases P true xs h = (refl, h)
+on_cases P false xs h = absurd h
+
+on_every : (P : ℕ → Type 0) (o : Bool) (xs : List ℕ) → o ≡ true → ((x : ℕ) → 0 < times x xs → P x) → Passes P (on_gate o) xs
+on_every P true xs e h = h
+on_every P false xs e h = absurd (true≢false (sym e))
+
+off_cases : (P : ℕ → Type 0) (o : Bool) (xs : List ℕ) → Passes P (off_gate o) xs → (o ≡ true) ⊎ ((x : ℕ) × (0 < times x xs) × P x)
+off_cases P true xs h = inl refl
+off_cases P false xs h = inr h
+
+off_now : (P : ℕ → Type 0) (o : Bool) (xs : List ℕ) → o ≡ true → Passes P (off_gate o) xs
+off_now P true xs e = tt
+off_now P false xs e = absurd (true≢false (sym e))
+
+off_either : (P : ℕ → Type 0) (o : Bool) (xs : List ℕ) → (x : ℕ) × (0 < times x xs) × P x → Passes P (off_gate o) xs
+off_either P true xs h = tt
+off_either P false xs h = h
+
+right_of : (i m : Bool) → i ≡ false → (i || m) ≡ true → m ≡ true
+right_of true m e h = absurd (true≢false e)
+right_of false m e h = h
+
+out_and : (i m : Bool) → (not i && m) ≡ true → (i ≡ false) × (m ≡ true)
+out_and true m h = absurd (true≢false (sym h))
+out_and false m h = (refl, h)
+
+both_true : (a b : Bool) → (a && b) ≡ true → (a ≡ true) × (b ≡ true)
+both_true true b h = (refl, h)
+both_true false b h = absurd (true≢false (sym h))
+
+one_true : (a b : Bool) → (a || b) ≡ true → (a ≡ true) ⊎ (b ≡ true)
+one_true true b h = inl refl
+one_true false b h = inr h
+
+all_true : (p : ℕ → Bool) (xs : List ℕ) (i : ℕ) → 0 < times i xs → list_all p xs ≡ true → p i ≡ true
+all_true p [] i m h = absurd (omega arith)
+all_true p (x ∷ xs) i m h =
+    let b = both_true (p x) (list_all p xs) h in
+    elim (cases_eq i x) [
+      | inl is ↦ ap p is ∙ b.0
+      | inr other ↦ all_true p xs i (omega (arith, m, times_cons_other i x xs other)) b.1
+    ]
+
+true_all : (p : ℕ → Bool) (xs : List ℕ) → ((i : ℕ) → 0 < times i xs → p i ≡ true) → list_all p xs ≡ true
+true_all p [] h = refl
+true_all p (x ∷ xs) h =
+    ap (λ (a : Bool). a && list_all p xs) (h x (omega (arith, times_cons_same x x xs refl))) ∙ true_all p xs (λ i m. h i (omega (arith, m)))
+
+any_true : (p : ℕ → Bool) (xs : List ℕ) → list_any p xs ≡ true → (i : ℕ) × (0 < times i xs) × (p i ≡ true)
+any_true p [] h = absurd (true≢false (sym h))
+any_true p (x ∷ xs) h = elim (one_true (p x) (list_any p xs) h) [
+  | inl e ↦ (x, omega (arith, times_cons_same x x xs refl), e)
+  | inr e ↦ let r = any_true p xs e in (r.0, omega (arith, r.1), r.2)
+]
+
+or_true : (a : Bool) → (a || true) ≡ true
+or_true true = refl
+or_true false = refl
+
+true_any : (p : ℕ → Bool) (xs : List ℕ) (i : ℕ) → 0 < times i xs → p i ≡ true → list_any p xs ≡ true
+true_any p [] i m h = absurd (omega arith)
+true_any p (x ∷ xs) i m h = elim (cases_eq i x) [
+  | inl is ↦ ap (λ (a : Bool). a || list_any p xs) (ap p (sym is) ∙ h)
+  | inr other ↦
+      ap (λ (c : Bool). p x || c) (true_any p xs i (omega (arith, m, times_cons_other i x xs other)) h) ∙ or_true (p x)
+]
+
+picked_true : (p : ℕ → Bool) (i x : ℕ) (fs : List ℕ) (c : Bool) → p x ≡ c → (0 < times i fs → p i ≡ true) → 0 < times i (cond c (x ∷ fs) fs) → p i ≡ true
+picked_true p i x fs true e f h = elim (cases_eq i x) [
+  | inl is ↦ ap p is ∙ e
+  | inr other ↦ f (omega (arith, h, times_cons_other i x fs other))
+]
+picked_true p i x fs false e f h = f h
+
+times-filter_true : (p : ℕ → Bool) (i : ℕ) (xs : List ℕ) → 0 < times i (filter p xs) → p i ≡ true
+times-filter_true p i [] h = absurd (omega arith)
+times-filter_true p i (x ∷ xs) h = picked_true p i x (filter p xs) (p x) refl (λ m. times-filter_true p i xs m) h
+
 -- a gate that is open below a bound
 abbrev pub below : ℕ → ℕ → Gate → Gate
 below i bound g = cond (nat_lt i bound) g Never
 
 module _ (N : NetLists) (numbered : IsNumbered N) (got : Tagged → Type 0) (P : ℕ → Type 0) (s : ℕ) where
-  -- a rule is on
-  module _ (f : Family) (k : ℕ) (small : k < s) (r : ℕ) where
-    pub on_sound : ((i : ℕ) → P (i * s + k) → HasTag N got true f i)
-        → Passes P (below r (length N.theory.rules) Every) (through s k (back N Uses r) ++ []) → IsOnAt N got f r
-    on_sound into h =
-        let o = open_gate P (nat_lt r (length N.theory.rules)) Every (through s k (back N Uses r) ++ []) h in
-        let lt : r < length N.theory.rules = ltb-true r (length N.theory.rules) o.0 in (
-          lt,
-          λ j d inside.
-              let x : Literal = get_or (rule_at N r).body j d in
-              let m = every_one P s k k small small (back N Uses r) [] o.1 (number N x) (body_complete N numbered r lt j d inside) in
-              let g = into (number N x) m in
-              subst (λ (q : Literal). got (tagged true f q)) (number_of N numbered x g.0) g.1,
-        )
-
-    pub on_passes : IsOnAt N got f r → ((b : ℕ) → HasTag N got true f b → P (b * s + k))
-        → Passes P (below r (length N.theory.rules) Every) (through s k (back N Uses r) ++ [])
-    on_passes m from =
-        close_gate P (nat_lt r (length N.theory.rules)) Every (through s k (back N Uses r) ++ []) (lt-ltb r (length N.theory.rules) m.0)
-        (every_one_back P s k k small small (back N Uses r) []
-        (λ i n. let c = body_sound N numbered r m.0 i n in
-        from i (c.1, All-contains (λ x. got (tagged true f x)) (rule_at N r).body (literal_at N i) m.1 c.0)))
-
-    -- a rule is off
-    pub off_sound : ((i : ℕ) → P (i * s + k) → HasTag N got false f i)
-        → Passes P (below r (length N.theory.rules) Either) (through s k (back N Uses r) ++ []) → IsOffAt N got f r
-    off_sound into h =
-        let o = open_gate P (nat_lt r (length N.theory.rules)) Either (through s k (back N Uses r) ++ []) h in
-        let lt : r < length N.theory.rules = ltb-true r (length N.theory.rules) o.0 in
-        let m = either_one P s k k small small (back N Uses r) [] o.1 in
-        let c = body_sound N numbered r lt m.0 m.1 in
-        (lt, (c.0.0, literal_at N m.0, c.0.1, c.0.2, (into m.0 m.2).1))
-
-    pub off_passes : IsOffAt N got f r → ((b : ℕ) → HasTag N got false f b → P (b * s + k))
-        → Passes P (below r (length N.theory.rules) Either) (through s k (back N Uses r) ++ [])
-    off_passes m from =
-        let x : Literal = m.1.1 in
-        let there = body_in N numbered r m.0 m.1.1 (m.1.0, m.1.2, m.1.3) in
-        close_gate P (nat_lt r (length N.theory.rules)) Either (through s k (back N Uses r) ++ []) (lt-ltb r (length N.theory.rules) m.0)
-        (either_one_back P s k k small small (back N Uses r) [] (number N m.1.1)
-        (subst (λ (y : Literal). 0 < times (number N y) (back N Uses r)) m.1.3 (body_complete N numbered r m.0 m.1.0 m.1.1 m.1.2))
-        (from (number N m.1.1) (
-          number_inside N numbered m.1.1 there,
-          subst (λ (y : Literal). got (tagged false f y)) (sym (number_finds N numbered m.1.1 there)) m.1.4,
-        )))
-
   -- some rule of a kind that leads to the literal has Q, or each has
   module _ (R : Rule → Type 0) (rules : List ℕ) (listing : IsListing N R rules) (Q : Rule → Type 0) (k : ℕ) (small : k < s) where
     pub some_sound : ((i : ℕ) → P (i * s + k) → (i < length N.theory.rules) × Q (rule_at N i)) → Passes P Either (through s k rules ++ [])
@@ -187,3 +231,107 @@ module _ (N : NetLists) (numbered : IsNumbered N) (got : Tagged → Type 0) (P :
         (λ t n.
         let d = (listing u m.0).sound t n in
         off t d.1 (d.0, all_to N (Rival (rule_at N u)) (back N link u) (listing u m.0) (IsOff got f) m.1.1 t n)))
+
+-- what is marked outside the region is got
+abbrev pub IsGotOutside : NetLists → Before → Family → (Tagged → Type 0) → Type 0
+IsGotOutside N b f got =
+    (plus : Bool) (i : ℕ) → i < length N.names → b.inside i ≡ false → b.marked (tag_of plus f) i ≡ true → got (tagged plus f (literal_at N i))
+
+pub right_outside : (N : NetLists) (b : Before) (f : Family) → IsExactOutside N b f → IsGotOutside N b f (Follows N.theory)
+right_outside N b f exact plus i lt out e = (exact plus i lt out).0 e
+
+-- a rule's body: inside by nodes, outside by marks
+module _ (N : NetLists) (numbered : IsNumbered N) (b : Before) (f : Family) (got : Tagged → Type 0) (outer : IsGotOutside N b f got)
+    (P : ℕ → Type 0) (s k : ℕ) (small : k < s) (r : ℕ) where
+  body_all : (p : ℕ → Bool) (i : ℕ) → 0 < times i (back N Uses r) → list_all p (back N Uses r) ≡ true → p i ≡ true
+  body_all p i m h = all_true p (back N Uses r) i m h
+
+  -- a rule is on
+  pub on_sound : ((i : ℕ) → P (i * s + k) → HasTag N got true f i)
+      → Passes P (below r (length N.theory.rules) (on_gate (outside_is_on N b f r))) (through s k (filter b.inside (back N Uses r)) ++ []) → IsOnAt N got f r
+  on_sound into h =
+      let o = open_gate P (nat_lt r (length N.theory.rules)) (on_gate (outside_is_on N b f r)) (through s k (filter b.inside (back N Uses r)) ++ []) h in
+      let lt : r < length N.theory.rules = ltb-true r (length N.theory.rules) o.0 in
+      let c = on_cases P (outside_is_on N b f r) (through s k (filter b.inside (back N Uses r)) ++ []) o.1 in (
+        lt,
+        λ j d inside.
+            let x : Literal = get_or (rule_at N r).body j d in
+            let i : ℕ = number N (get_or (rule_at N r).body j d) in
+            let m : 0 < times (number N (get_or (rule_at N r).body j d)) (back N Uses r) = body_complete N numbered r lt j d inside in
+            let in_names : number N (get_or (rule_at N r).body j d) < length N.names = (body_sound N numbered r lt (number N (get_or (rule_at N r).body j d)) m).1 in
+            subst (λ (q : Literal). got (tagged true f q)) (number_of N numbered (get_or (rule_at N r).body j d) in_names)
+            (elim (known (b.inside (number N (get_or (rule_at N r).body j d)))) [
+              | inl here ↦
+                  (into (number N (get_or (rule_at N r).body j d))
+                  (every_one P s k k small small (filter b.inside (back N Uses r)) [] c.1 (number N (get_or (rule_at N r).body j d))
+                  (subst (λ (n : ℕ). 0 < n) (sym (times-filter_kept b.inside (number N (get_or (rule_at N r).body j d)) (back N Uses r) here)) m))).1
+              | inr out ↦
+                  outer true (number N (get_or (rule_at N r).body j d)) in_names out
+                  (right_of (b.inside (number N (get_or (rule_at N r).body j d))) (b.marked (tag_of true f) (number N (get_or (rule_at N r).body j d))) out
+                  (body_all (λ i. b.inside i || b.marked (tag_of true f) i) (number N (get_or (rule_at N r).body j d)) m c.0))
+            ]),
+      )
+
+  -- a rule is off
+  pub off_sound : ((i : ℕ) → P (i * s + k) → HasTag N got false f i)
+      → Passes P (below r (length N.theory.rules) (off_gate (outside_is_off N b f r))) (through s k (filter b.inside (back N Uses r)) ++ []) → IsOffAt N got f r
+  off_sound into h =
+      let o = open_gate P (nat_lt r (length N.theory.rules)) (off_gate (outside_is_off N b f r)) (through s k (filter b.inside (back N Uses r)) ++ []) h in
+      let lt : r < length N.theory.rules = ltb-true r (length N.theory.rules) o.0 in (
+        lt,
+        elim (off_cases P (outside_is_off N b f r) (through s k (filter b.inside (back N Uses r)) ++ []) o.1) [
+          | inl some ↦
+              let i = any_true (λ i. not (b.inside i) && b.marked (tag_of false f) i) (back N Uses r) some in
+              let e = out_and (b.inside i.0) (b.marked (tag_of false f) i.0) i.2 in
+              let c = body_sound N numbered r lt i.0 i.1 in
+              (c.0.0, literal_at N i.0, c.0.1, c.0.2, outer false i.0 c.1 e.0 e.1)
+          | inr either ↦
+              let m = either_one P s k k small small (filter b.inside (back N Uses r)) [] either in
+              let c = body_sound N numbered r lt m.0 (omega (arith, m.1, times-filter_le b.inside m.0 (back N Uses r))) in
+              (c.0.0, literal_at N m.0, c.0.1, c.0.2, (into m.0 m.2).1)
+        ],
+      )
+
+-- the same from a meaning, where the marks outside are right
+module _ (N : NetLists) (numbered : IsNumbered N) (b : Before) (f : Family) (outside : IsExactOutside N b f) (P : ℕ → Type 0) (s k : ℕ) (small : k < s) (r : ℕ) where
+  pub on_passes : (got : Tagged → Type 0) → ((y : Tagged) → got y → Follows N.theory y) → IsOnAt N got f r → ((i : ℕ) → b.inside i ≡ true → HasTag N got true f i → P (i * s + k))
+      → Passes P (below r (length N.theory.rules) (on_gate (outside_is_on N b f r))) (through s k (filter b.inside (back N Uses r)) ++ [])
+  on_passes got follows m from =
+      let each : (i : ℕ) → 0 < times i (back N Uses r) → HasTag N got true f i =
+      λ i n. let c = body_sound N numbered r m.0 i n in (c.1, All-contains (λ x. got (tagged true f x)) (rule_at N r).body (literal_at N i) m.1 c.0) in
+      close_gate P (nat_lt r (length N.theory.rules)) (on_gate (outside_is_on N b f r)) (through s k (filter b.inside (back N Uses r)) ++ []) (lt-ltb r (length N.theory.rules) m.0)
+      (on_every P (outside_is_on N b f r) (through s k (filter b.inside (back N Uses r)) ++ [])
+      (true_all (λ i. b.inside i || b.marked (tag_of true f) i) (back N Uses r)
+      (λ i n. elim (known (b.inside i)) [
+        | inl here ↦ ap (λ (x : Bool). x || b.marked (tag_of true f) i) here
+        | inr out ↦
+            let h = each i n in
+            ap (λ (x : Bool). x || b.marked (tag_of true f) i) out ∙ (outside true i h.0 out).1 (follows (tagged true f (literal_at N i)) h.1)
+      ]))
+      (every_one_back P s k k small small (filter b.inside (back N Uses r)) []
+      (λ i n.
+      let in_body : 0 < times i (back N Uses r) = omega (arith, n, times-filter_le b.inside i (back N Uses r)) in
+      from i (times-filter_true b.inside i (back N Uses r) n) (each i in_body))))
+
+  pub off_passes : (got : Tagged → Type 0) → ((y : Tagged) → got y → Follows N.theory y) → IsOffAt N got f r → ((i : ℕ) → b.inside i ≡ true → HasTag N got false f i → P (i * s + k))
+      → Passes P (below r (length N.theory.rules) (off_gate (outside_is_off N b f r))) (through s k (filter b.inside (back N Uses r)) ++ [])
+  off_passes got follows m from =
+      let there = body_in N numbered r m.0 m.1.1 (m.1.0, m.1.2, m.1.3) in
+      let i : ℕ = number N m.1.1 in
+      let inside_names : number N m.1.1 < length N.names = number_inside N numbered m.1.1 there in
+      let in_body : 0 < times (number N m.1.1) (back N Uses r) =
+      subst (λ (y : Literal). 0 < times (number N y) (back N Uses r)) m.1.3 (body_complete N numbered r m.0 m.1.0 m.1.1 m.1.2) in
+      let g : got (tagged false f (literal_at N (number N m.1.1))) = subst (λ (y : Literal). got (tagged false f y)) (sym (number_finds N numbered m.1.1 there)) m.1.4 in
+      close_gate P (nat_lt r (length N.theory.rules)) (off_gate (outside_is_off N b f r)) (through s k (filter b.inside (back N Uses r)) ++ []) (lt-ltb r (length N.theory.rules) m.0)
+      (elim (known (b.inside (number N m.1.1))) [
+        | inl here ↦
+            off_either P (outside_is_off N b f r) (through s k (filter b.inside (back N Uses r)) ++ [])
+            (either_one_back P s k k small small (filter b.inside (back N Uses r)) [] (number N m.1.1)
+            (subst (λ (n : ℕ). 0 < n) (sym (times-filter_kept b.inside (number N m.1.1) (back N Uses r) here)) in_body)
+            (from (number N m.1.1) here (inside_names, g)))
+        | inr out ↦
+            off_now P (outside_is_off N b f r) (through s k (filter b.inside (back N Uses r)) ++ [])
+            (true_any (λ i. not (b.inside i) && b.marked (tag_of false f) i) (back N Uses r) (number N m.1.1) in_body
+            (ap (λ (x : Bool). not x && b.marked (tag_of false f) (number N m.1.1)) out
+            ∙ (outside false (number N m.1.1) inside_names out).1 (follows (tagged false f (literal_at N (number N m.1.1))) g)))
+      ])

@@ -1,5 +1,5 @@
 -- Steps of the loops that make hits.
-use Rattle.std.proofs.Common.{◌≡◌, ℕ, zero, suc, ◌+◌, ◌-◌, ◌==◌, ◌*◌, ◌/◌, ◌%◌, ◌<◌, cond, Bool, true, false, List, [], ◌∷◌, ◌++◌, length, map, take, get_or, set, inl, inr, ◌⊎◌, sym, subst, ap, refl, ◌∙◌, arith}
+use Rattle.std.proofs.Common.{◌≡◌, ℕ, zero, suc, ◌+◌, ◌-◌, ◌==◌, ◌*◌, ◌/◌, ◌%◌, ◌<◌, cond, Bool, true, false, List, [], ◌∷◌, ◌++◌, length, take, get_or, set, inl, inr, ◌⊎◌, sym, subst, ap, refl, ◌∙◌, arith}
 use Rattle.std.specs.List.{fold, flat_map}
 use Rattle.std.proofs.lemmas.Bool.{cases_eq, eq-eqb, ne_eqb}
 use Rattle.dl_net.specs.Numbers.{NetLists, next}
@@ -12,15 +12,7 @@ use Rattle.std.proofs.lemmas.Grind.{flat_map-append}
 use Rattle.std.proofs.lemmas.List.{append-nil}
 use Rattle.dl_net.specs.Counting.{times}
 use Rattle.dl_fill.specs.Counters.{CounterLists, hit}
-use Rattle.dl_fill.proofs.Times.{times-append, times_cons_same, times_cons_other, times_push_other}
-
-pub times-get_or : (xs : List ℕ) (i d : ℕ) → i < length xs → 0 < times (get_or xs i d) xs
-times-get_or [] i d h = absurd (omega arith)
-times-get_or (x ∷ xs) zero d h = omega (arith, times_cons_same x x xs refl)
-times-get_or (x ∷ xs) (suc i) d h = elim (cases_eq (get_or xs i d) x) [
-  | inl e ↦ omega (arith, times_cons_same (get_or xs i d) x xs e)
-  | inr n ↦ omega (arith, times_cons_other (get_or xs i d) x xs n, times-get_or xs i d (omega arith))
-]
+use Rattle.dl_fill.proofs.Times.{times-append, times_cons_same, times_push_other, times-get_or}
 
 -- the j-th number that a wire makes of xs
 pub made_at : (s to : ℕ) (xs : List ℕ) (i : ℕ) → i < length xs → get_or (through s to xs) i 0 ≡ get_or xs i 0 * s + to

@@ -32,3 +32,10 @@ waiting_last need z v lt e f =
     let a : cond (nat_lt 0 (get_or need z 0)) 1 0 ≡ one 1 = ap one e in
     let b : cond (nat_lt 0 (v - 1)) 1 0 ≡ one 0 = ap one zero in
     omega (arith, s, a, b)
+
+pub within_push : (places : List ℕ) (len z n : ℕ) → len < length places → z < n → ((y : ℕ) → 0 < times y (take len places) → y < n)
+    → (y : ℕ) → 0 < times y (take (len + 1) (set places len z)) → y < n
+within_push places len z n room inside h y m = elim (cases_eq y z) [
+  | inl same ↦ omega (arith, same, inside)
+  | inr other ↦ h y (omega (arith, m, ap (times y) (take_more_set places len z room), times_push_other y z (take len places) other))
+]

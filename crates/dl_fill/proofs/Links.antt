@@ -1,11 +1,10 @@
 -- The links of a numbered theory: turned round, and in the theory's own terms.
-use Rattle.std.proofs.Common.{◌≡◌, ℕ, zero, suc, ◌+◌, ◌<◌, ◌≤◌, Bool, true, false, cond, List, [], ◌∷◌, length, map, get_or, inl, inr, ◌⊎◌, sym, subst, ap, refl, ◌∙◌, arith, true≢false}
+use Rattle.std.proofs.Common.{◌≡◌, ℕ, zero, suc, ◌+◌, ◌<◌, ◌≤◌, Bool, true, false, cond, List, [], ◌∷◌, length, map, get_or, inl, inr, sym, subst, ap, refl, ◌∙◌, arith, true≢false}
 use Rattle.std.specs.Prelude.{Contains, IsTrue, ◌&&◌}
 use Rattle.std.specs.List.{flat_map}
 use Rattle.std.specs.Str.{bytes_eq}
 use Rattle.std.proofs.lemmas.Slice.Eq.{bytes_eq-Decides}
 use Rattle.std.proofs.lemmas.List.Concat.{flat_map-cons}
-use Rattle.std.specs.Bool.{Decides}
 use Rattle.std.proofs.lemmas.Bool.{cases_eq, cases_lt}
 use Rattle.std.proofs.lemmas.Map.Made.{is_member-Decides}
 use Rattle.std.proofs.lemmas.List.Sums.{passes_at_first, fails_before_first}
@@ -24,7 +23,7 @@ use Rattle.dl_fill.proofs.Once.{once_sound, once_complete}
 use Rattle.dl_net.specs.Counting.{times}
 use Rattle.dl_fill.proofs.Times.{times-append, times_cons_same, times_cons_other, eqb_swaps}
 use Rattle.dl_net.specs.Rows.{row, places}
-use Rattle.dl_net.specs.Numbers.{NetLists, IsNumbered, no_literal, no_rule, literal_at, rule_at, number, body_row, backs_row, proves_row, attackers_row, opposes_row, mark_row, labelled, lowers_row, uppers_row, next, back}
+use Rattle.dl_net.specs.Numbers.{NetLists, IsNumbered, no_literal, no_rule, literal_at, rule_at, number, body_row, backs_row, proves_row, attackers_row, opposes_row, mark_row, labelled, lowers_row, uppers_row, next, back, heads, head_row}
 use Rattle.dl_net.specs.declared.link.Link.{Link}
 use Rattle.dl_net.specs.declared.link.Link.TheVariants.{Same, Uses, Backs, Proves, Opposes as Opposing, Defends, Counters}
 use Rattle.dl_fill.proofs.Rows.{places_turned, row_inside, row_outside}
@@ -262,6 +261,13 @@ module _ (N : NetLists) (numbered : IsNumbered N) where
       (λ r lt h. kind_has (is_strict (rule_at N r).kind) q (number N (rule_at N r).head) h.1
       (sym (numbered.distinct q inside) ∙ ap (number N) (sym h.0)))
 
+  -- the rules with that head
+  pub heads_listing : (q : ℕ) → q < length N.names → IsListing N (λ r. r.head ≡ literal_at N q) (heads N q)
+  heads_listing q inside =
+      listing (head_row N) (λ r. r.head ≡ literal_at N q) q
+      (λ r lt h. sym (number_finds (rule_at N r).head (head_in r lt)) ∙ ap (literal_at N) (sym (single q (number N (rule_at N r).head) h)))
+      (λ r lt h. single_has q (number N (rule_at N r).head) (sym (numbered.distinct q inside) ∙ ap (number N) (sym h)))
+
   -- what attacks a literal that has a number has one
   pub attacker_named : (q c : Literal) → Contains N.names q → Contains (attackers N.theory q) c → Contains N.names c
   attacker_named q c h m = subst (Contains N.names) (sym (only (complement q) c m)) (numbered.complements q h)
@@ -276,7 +282,7 @@ module _ (N : NetLists) (numbered : IsNumbered N) where
         (r.0, (suc r.1.0, (omega (arith, r.1.1)), r.1.2), r.2)
   ]
 
-  numbers_complete : (xs : List Literal) (k : ℕ) (d : Literal) → k < length xs → 0 < times (number N (get_or xs k d)) (map (number N) xs)
+  pub numbers_complete : (xs : List Literal) (k : ℕ) (d : Literal) → k < length xs → 0 < times (number N (get_or xs k d)) (map (number N) xs)
   numbers_complete [] k d h = absurd (omega arith)
   numbers_complete (x ∷ xs) zero d h = omega (arith, times_cons_same (number N x) (number N x) (map (number N) xs) refl)
   numbers_complete (x ∷ xs) (suc k) d h =

@@ -1,13 +1,13 @@
 -- Nodes with gates: the queue at the end is the least set that each gate asks for.
-use Rattle.std.proofs.Common.{◌≡◌, ◌≢◌, ℕ, ◌+◌, ◌*◌, ◌/◌, ◌%◌, ◌<◌, ◌≤◌, Bool, true, cond, List, [], ◌∷◌, length, inl, inr, ◌⊎◌, sym, subst, ap, refl, ◌∙◌, arith, true≢false}
+use Rattle.std.proofs.Common.{◌≡◌, ℕ, ◌/◌, ◌%◌, ◌<◌, ◌≤◌, Bool, true, cond, List, [], ◌∷◌, length, take, get_or, inl, inr, ◌⊎◌, sym, subst, ap, refl, ◌∙◌, arith, true≢false}
 use Rattle.std.specs.List.{flat_map}
-use Rattle.std.proofs.lemmas.Bool.{cases_eq, eqb-true}
+use Rattle.std.proofs.lemmas.Bool.{eqb-true}
 use Rattle.std.proofs.lemmas.Bool.Decides.{eqb_tells}
 use Rattle.std.proofs.lemmas.List.Concat.{flat_map-cons}
 use Rattle.dl_net.specs.Counting.{times}
 use Rattle.dl_fill.specs.Counting.{overlap}
 use Rattle.dl_fill.specs.Counters.{CounterLists}
-use Rattle.dl_fill.proofs.Times.{times-append, times_cons_same, times_cons_other, overlap-nil_right, overlap-cons_right, overlap_all, overlap_full, overlap_some, overlap_has}
+use Rattle.dl_fill.proofs.Times.{times-take, times-take_more, times-append, times_cons_same, overlap-nil_right, overlap-cons_right, overlap_all, overlap_full, overlap_some, overlap_has}
 use Rattle.dl_fill.proofs.Engine.{IsClosedFrom, IsSettled}
 use Rattle.dl_fill.proofs.Nodes.{times_through_same, times_through_other}
 use Rattle.dl_net.specs.Numbers.{NetLists, next, back}
@@ -15,34 +15,56 @@ use Rattle.dl_fill.proofs.Links.{links_turned}
 use Rattle.dl_fill.specs.declared.wire.Wire.{Wire}
 use Rattle.dl_fill.specs.declared.wire.Gate.{Gate}
 use Rattle.dl_fill.specs.declared.wire.Gate.TheVariants.{Every, Either, Now, Never}
-use Rattle.dl_fill.specs.Wires.{through, edges_by, edges, inputs_by, inputs, AreKinds}
+use Rattle.dl_net.specs.declared.link.Link.{Link}
+use Rattle.dl_net.specs.declared.link.Link.TheVariants.{Same, Uses, Backs, Proves, Opposes, Defends, Counters}
+use Rattle.dl_fill.proofs.Once.{times-filter_kept}
+use Rattle.dl_fill.specs.Wires.{through, edges_by, edges, inner, inputs_by, inputs, AreKinds, IsLive}
 use Rattle.dl_fill.specs.Gates.{awaited, at_once, Passes}
 
-module _ (N : NetLists) (s : ℕ) where
-  by_turned : (w : Wire) (x y : ℕ) → w.from < s → w.to < s → times y (edges_by N s x w) ≡ times x (inputs_by N s (y % s) (y / s) w)
-  by_turned w x y from to =
+module _ (N : NetLists) (inside : ℕ → Bool) (s : ℕ) where
+  -- a link, turned round, from what is inside
+  inner_turned : (link : Link) (x y : ℕ) → (link ≡ Uses → inside x ≡ true) → times y (next N link x) ≡ times x (inner N inside link y)
+  inner_turned Same x y h = links_turned N Same x y
+  inner_turned Uses x y h = links_turned N Uses x y ∙ sym (times-filter_kept inside x (back N Uses y) (h refl))
+  inner_turned Backs x y h = links_turned N Backs x y
+  inner_turned Proves x y h = links_turned N Proves x y
+  inner_turned Opposes x y h = links_turned N Opposes x y
+  inner_turned Defends x y h = links_turned N Defends x y
+  inner_turned Counters x y h = links_turned N Counters x y
+
+  by_turned : (w : Wire) (x y : ℕ) → w.from < s → w.to < s → (w.link ≡ Uses → w.from ≡ x % s → inside (x / s) ≡ true)
+      → times y (edges_by N s x w) ≡ times x (inputs_by N inside s (y % s) (y / s) w)
+  by_turned w x y from to live =
       elim (eqb_tells w.from (x % s)) [
-        | inl f ↦ subst (λ (a : Bool). times y (cond a (through s w.to (next N w.link (x / s))) []) ≡ times x (inputs_by N s (y % s) (y / s) w)) (sym f.0)
+        | inl f ↦ subst (λ (a : Bool). times y (cond a (through s w.to (next N w.link (x / s))) []) ≡ times x (inputs_by N inside s (y % s) (y / s) w)) (sym f.0)
             (elim (eqb_tells w.to (y % s)) [
-              | inl t ↦ subst (λ (b : Bool). times y (through s w.to (next N w.link (x / s))) ≡ times x (cond b (through s w.from (back N w.link (y / s))) [])) (sym t.0)
-                  (times_through_same s w.to y (next N w.link (x / s)) to t.1 ∙ links_turned N w.link (x / s) (y / s) ∙ sym (times_through_same s w.from x (back N w.link (y / s)) from f.1))
-              | inr t ↦ subst (λ (b : Bool). times y (through s w.to (next N w.link (x / s))) ≡ times x (cond b (through s w.from (back N w.link (y / s))) [])) (sym t.0)
+              | inl t ↦ subst (λ (b : Bool). times y (through s w.to (next N w.link (x / s))) ≡ times x (cond b (through s w.from (inner N inside w.link (y / s))) [])) (sym t.0)
+                  (times_through_same s w.to y (next N w.link (x / s)) to t.1
+                  ∙ inner_turned w.link (x / s) (y / s) (λ e. live e f.1)
+                  ∙ sym (times_through_same s w.from x (inner N inside w.link (y / s)) from f.1))
+              | inr t ↦ subst (λ (b : Bool). times y (through s w.to (next N w.link (x / s))) ≡ times x (cond b (through s w.from (inner N inside w.link (y / s))) [])) (sym t.0)
                   (times_through_other s w.to y (next N w.link (x / s)) to t.1)
             ])
-        | inr f ↦ subst (λ (a : Bool). times y (cond a (through s w.to (next N w.link (x / s))) []) ≡ times x (inputs_by N s (y % s) (y / s) w)) (sym f.0)
+        | inr f ↦ subst (λ (a : Bool). times y (cond a (through s w.to (next N w.link (x / s))) []) ≡ times x (inputs_by N inside s (y % s) (y / s) w)) (sym f.0)
             (elim (eqb_tells w.to (y % s)) [
-              | inl t ↦ subst (λ (b : Bool). 0 ≡ times x (cond b (through s w.from (back N w.link (y / s))) [])) (sym t.0)
-                  (sym (times_through_other s w.from x (back N w.link (y / s)) from f.1))
-              | inr t ↦ subst (λ (b : Bool). 0 ≡ times x (cond b (through s w.from (back N w.link (y / s))) [])) (sym t.0) refl
+              | inl t ↦ subst (λ (b : Bool). 0 ≡ times x (cond b (through s w.from (inner N inside w.link (y / s))) [])) (sym t.0)
+                  (sym (times_through_other s w.from x (inner N inside w.link (y / s)) from f.1))
+              | inr t ↦ subst (λ (b : Bool). 0 ≡ times x (cond b (through s w.from (inner N inside w.link (y / s))) [])) (sym t.0) refl
             ])
       ]
 
   -- a table of wires, turned round
-  pub turned : (wires : List Wire) → AreKinds s wires → (x y : ℕ) → times y (edges N s wires x) ≡ times x (inputs N s wires y)
-  turned [] kinds x y = refl
-  turned (w ∷ ws) kinds x y =
+  pub turned : (wires : List Wire) → AreKinds s wires → (x y : ℕ) → IsLive inside s wires x → times y (edges N s wires x) ≡ times x (inputs N inside s wires y)
+  turned [] kinds x y live = refl
+  turned (w ∷ ws) kinds x y live =
       ap (times y) (flat_map-cons (edges_by N s x) w ws)
-      ∙ omega (arith, times-append y (edges_by N s x w) (edges N s ws x), times-append x (inputs_by N s (y % s) (y / s) w) (inputs N s ws y), by_turned w x y kinds.0 kinds.1, turned ws kinds.2 x y)
+      ∙ omega (
+        arith,
+        times-append y (edges_by N s x w) (edges N s ws x),
+        times-append x (inputs_by N inside s (y % s) (y / s) w) (inputs N inside s ws y),
+        by_turned w x y kinds.0 kinds.1 live.0,
+        turned ws kinds.2 x y live.1,
+      )
 
 none_in : (xs : List ℕ) → length xs ≡ 0 → (x : ℕ) → 0 < times x xs → ⊥
 none_in [] e x h = omega arith
@@ -118,3 +140,18 @@ module _ (inputs : ℕ → List ℕ) (gate : ℕ → Gate) where
           | inl e ↦ inl e
           | inr r ↦ inr (r.0, subst (λ (n : ℕ). start y ≤ n) (sym (gathered y w.queue s.means)) r.1)
         ])
+
+    -- the gate of each node of the queue is passed by nodes before it
+    pub settled_order : (w : CounterLists) → IsSettled start given free edges Means w → (i : ℕ) → i < length w.queue
+        → Passes (λ x. 0 < times x (take i w.queue)) (gate (get_or w.queue i 0)) (inputs (get_or w.queue i 0))
+    settled_order w s i lt =
+        let o = s.order i lt in
+        elim o.2 [
+          | inl g ↦ passes_at_once (λ x. 0 < times x (take i w.queue)) (gate (get_or w.queue i 0)) (inputs (get_or w.queue i 0)) g
+          | inr r ↦
+              passes_by_hits (λ x. 0 < times x (take i w.queue)) (gate (get_or w.queue i 0)) (inputs (get_or w.queue i 0)) (take o.0 w.queue)
+              (λ x. omega (arith, s.once x, times-take x o.0 w.queue))
+              (λ x m. omega (arith, m, times-take_more x o.0 i w.queue o.1)) r.0
+              (subst (λ (n : ℕ). start (get_or w.queue i 0) ≤ n)
+              (gathered (get_or w.queue i 0) (take o.0 w.queue) (λ x m. s.means x (omega (arith, m, times-take x o.0 w.queue)))) r.1)
+        ]

@@ -1,5 +1,5 @@
 -- Members, each where it first stands.
-use Rattle.std.proofs.Common.{◌≡◌, ◌≢◌, ℕ, ◌+◌, ◌<◌, ◌≤◌, ◌==◌, Bool, true, false, cond, List, [], ◌∷◌, inl, inr, sym, subst, ap, refl, ◌∙◌, arith, true≢false}
+use Rattle.std.proofs.Common.{◌≡◌, ◌≢◌, ℕ, ◌<◌, ◌≤◌, ◌==◌, Bool, true, false, cond, List, [], ◌∷◌, inl, inr, sym, ap, refl, ◌∙◌, arith, true≢false}
 use Rattle.std.specs.Prelude.{not, filter}
 use Rattle.std.proofs.lemmas.Bool.{cases_eq, ne_eqb}
 use Rattle.dl_net.specs.Counting.{times, each_once}
@@ -9,7 +9,7 @@ picked_le : (c : Bool) (b x : ℕ) (fs xs : List ℕ) → times b fs ≤ times b
 picked_le true b x fs xs h = omega (arith, h)
 picked_le false b x fs xs h = omega (arith, h)
 
-times-filter_le : (p : ℕ → Bool) (b : ℕ) (xs : List ℕ) → times b (filter p xs) ≤ times b xs
+pub times-filter_le : (p : ℕ → Bool) (b : ℕ) (xs : List ℕ) → times b (filter p xs) ≤ times b xs
 times-filter_le p b [] = omega arith
 times-filter_le p b (x ∷ xs) = picked_le (p x) b x (filter p xs) xs (times-filter_le p b xs)
 
@@ -17,7 +17,7 @@ picked_kept : (c : Bool) (b x : ℕ) (fs xs : List ℕ) → (c ≡ false → b �
 picked_kept true b x fs xs n h = omega (arith, h)
 picked_kept false b x fs xs n h = omega (arith, h, times_cons_other b x xs (n refl))
 
-times-filter_kept : (p : ℕ → Bool) (b : ℕ) (xs : List ℕ) → p b ≡ true → times b (filter p xs) ≡ times b xs
+pub times-filter_kept : (p : ℕ → Bool) (b : ℕ) (xs : List ℕ) → p b ≡ true → times b (filter p xs) ≡ times b xs
 times-filter_kept p b [] e = refl
 times-filter_kept p b (x ∷ xs) e =
     picked_kept (p x) b x (filter p xs) xs (λ f same. true≢false (sym e ∙ ap p same ∙ f)) (times-filter_kept p b xs e)

@@ -1,6 +1,6 @@
 -- Counting members.
-use Rattle.std.proofs.lemmas.List.{take-append-drop}
-use Rattle.std.proofs.Common.{take, drop, ◌≡◌, ◌≢◌, ℕ, ◌+◌, ◌<◌, ◌≤◌, ◌==◌, eqb, cond, Bool, List, [], ◌∷◌, ◌++◌, length, inl, inr, sym, subst, ap, refl, ◌∙◌, arith}
+use Rattle.std.proofs.lemmas.List.{take-append-drop, take-take}
+use Rattle.std.proofs.Common.{take, drop, get_or, zero, suc, ◌≡◌, ◌≢◌, ℕ, ◌+◌, ◌<◌, ◌≤◌, ◌==◌, eqb, cond, Bool, List, [], ◌∷◌, ◌++◌, length, inl, inr, sym, subst, ap, refl, ◌∙◌, arith}
 use Rattle.std.specs.List.{flat_map}
 use Rattle.std.proofs.lemmas.Bool.{eq-eqb, ne_eqb, cases_eq}
 use Rattle.std.proofs.lemmas.List.Concat.{flat_map-cons}
@@ -93,3 +93,15 @@ overlap_has (z ∷ zs) ys x m h = elim (cases_eq x z) [
 
 pub times-take : (y n : ℕ) (xs : List ℕ) → times y (take n xs) ≤ times y xs
 times-take y n xs = omega (arith, ap (times y) (take-append-drop n xs), times-append y (take n xs) (drop n xs))
+
+pub times-get_or : (xs : List ℕ) (i d : ℕ) → i < length xs → 0 < times (get_or xs i d) xs
+times-get_or [] i d h = absurd (omega arith)
+times-get_or (x ∷ xs) zero d h = omega (arith, times_cons_same x x xs refl)
+times-get_or (x ∷ xs) (suc i) d h = elim (cases_eq (get_or xs i d) x) [
+  | inl e ↦ omega (arith, times_cons_same (get_or xs i d) x xs e)
+  | inr n ↦ omega (arith, times_cons_other (get_or xs i d) x xs n, times-get_or xs i d (omega arith))
+]
+
+-- a shorter front has no member more
+pub times-take_more : (y m n : ℕ) (xs : List ℕ) → m ≤ n → times y (take m xs) ≤ times y (take n xs)
+times-take_more y m n xs le = omega (arith, ap (times y) (take-take m n xs le), times-take y m (take n xs))

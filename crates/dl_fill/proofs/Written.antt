@@ -1,6 +1,6 @@
 -- Marks after a fill.
 use Rattle.std.proofs.Common.{◌≡◌, ℕ, suc, zero, ◌+◌, ◌*◌, ◌<◌, ◌≤◌, Bool, true, false, Some, List, [], ◌∷◌, ◌++◌, length, take, get_or, inl, inr, ◌⊎◌, sym, subst, ap, refl, ◌∙◌, arith, true≢false}
-use Rattle.std.specs.Prelude.{◌↔◌, All, Contains, IsTrue, slice_get, MatchOption, None, Option, nat_lt}
+use Rattle.std.specs.Prelude.{◌↔◌, All, Contains, IsTrue, slice_get, MatchOption, Option}
 use Rattle.std.specs.Bool.{Decides}
 use Rattle.std.proofs.lemmas.Bool.{cases_eq, cases_lt, ltb-true, lt-ltb}
 use Rattle.std.proofs.lemmas.List.{take_more, take_all}
@@ -17,7 +17,7 @@ use Rattle.dl_net.specs.Region.{Numbers}
 use Rattle.dl_net.specs.Counting.{times}
 use Rattle.dl_net.specs.Numbers.{NetLists, literal_at, no_literal}
 use Rattle.dl_fill.specs.Counters.{CounterLists}
-use Rattle.dl_fill.specs.Before.{Before, tag_of, is_inside, before_of, IsExact, IsExactOutside}
+use Rattle.dl_fill.specs.Before.{tag_of, is_inside, before_of, IsExact, IsExactOutside}
 use Rattle.dl_fill.specs.Filled.{stands, IsRight, IsReady, IsFilled, IsWritten, IsFamilyWritten, HasFired, IsSolved, either_kind}
 use Rattle.dl_fill.proofs.Times.{times_cons_same, times_cons_other}
 use Rattle.dl_fill.proofs.Nodes.{node_inside}
@@ -194,19 +194,19 @@ exact_of_ready N Ours m region f ours ready plus q lt out =
 
 -- a solved family that is written is right
 pub written_right : (N : NetLists) (Ours : Family → Type 0) (f : Family) (ours : Ours f) (region : Numbers) (Fired : Bool → ℕ → Type 0) (old new : Marking)
-    → IsReady N Ours old region → All (λ q. q < region.bound) region.members → IsSolved N Fired f → IsFamilyWritten Fired f region.members old new → IsRight N new f
+    → IsReady N Ours old region → All (λ q. q < region.bound) region.members → IsSolved N region.members Fired f → IsFamilyWritten Fired f region.members old new → IsRight N new f
 written_right N Ours f ours region Fired old new ready below solved written plus n lt = elim (member_or_not region.members n) [
   | inl here ↦
       let named : n < length N.names = omega (arith, All-contains (λ q. q < region.bound) region.members n below here, ready.bound) in
       let w = written.within plus n here in
-      let s = solved plus n named in
+      let s = solved plus n here in
       decides_right N new plus f n named (λ e. s.0 (w.0 e), λ h. w.1 (s.1 h))
   | inr out ↦ right_alike N old new plus f n (written.out plus n out) (ready.outside f ours plus n (omega (arith, lt, written.places)) out)
 ]
 
 -- a fill of one family
 pub one_filled : (N : NetLists) (f : Family) (region : Numbers) (Fired : Bool → ℕ → Type 0) (old new : Marking)
-    → IsReady N (λ g. g ≡ f) old region → All (λ q. q < region.bound) region.members → IsSolved N Fired f → IsFamilyWritten Fired f region.members old new
+    → IsReady N (λ g. g ≡ f) old region → All (λ q. q < region.bound) region.members → IsSolved N region.members Fired f → IsFamilyWritten Fired f region.members old new
     → IsFilled N (λ g. g ≡ f) old new
 one_filled N f region Fired old new ready below solved written = record {
   right = λ g e. subst (IsRight N new) (sym e) (written_right N (λ g. g ≡ f) f refl region Fired old new ready below solved written);

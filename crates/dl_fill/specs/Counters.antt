@@ -26,3 +26,4 @@ pub record IsKept (need places : List ℕ) (len : ℕ) (fired : List Bool) : Typ
   pub flags : length fired ≡ length need
   pub few : len + waiting need ≤ length need
   pub fires : (y : ℕ) → y < length need → slice_index_or fired y false ≡ nat_lt 0 (times y (take len places))
+  pub within : (y : ℕ) → 0 < times y (take len places) → y < length need

@@ -55,9 +55,9 @@ pub record IsFamilyWritten (Fired : Bool → ℕ → Type 0) (f : Family) (membe
   pub places : places new ≡ places old
   pub owned : (n : ℕ) → is_owned new n ≡ is_owned old n
 
--- exactly what follows in a family has fired
-abbrev pub IsSolved : NetLists → (Bool → ℕ → Type 0) → Family → Type 0
-IsSolved N Fired f = (plus : Bool) (q : ℕ) → q < length N.names → Fired plus q ↔ Follows N.theory (tagged plus f (literal_at N q))
+-- exactly what follows in a family has fired, at the members of the region
+abbrev pub IsSolved : NetLists → List ℕ → (Bool → ℕ → Type 0) → Family → Type 0
+IsSolved N members Fired f = (plus : Bool) (q : ℕ) → Contains members q → Fired plus q ↔ Follows N.theory (tagged plus f (literal_at N q))
 
 -- the plus kind, and the minus kind
 abbrev pub either_kind : ℕ → ℕ → Bool → ℕ

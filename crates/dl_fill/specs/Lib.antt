@@ -2,9 +2,16 @@ pub mod Counting
 pub mod Counters
 pub mod Wires
 pub mod Gates
+pub mod Before
 pub mod Prepared
+pub mod Idle
+pub mod Touched
 pub mod Runs
 pub mod Rivals
 pub mod Meanings
-pub mod Before
 pub mod Filled
+pub mod Tables
+pub mod Passing
+pub mod Steps
+pub mod Pruned
+pub mod Reads

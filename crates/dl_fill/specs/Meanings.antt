@@ -1,5 +1,5 @@
 -- What nodes mean, by what counts as derived.
-use Rattle.std.specs.Prelude.{ℕ, ◌<◌, Bool, true, false, length, All, Any, ◌⊎◌}
+use Rattle.std.specs.Prelude.{ℕ, ◌<◌, Bool, length, All, Any, ◌⊎◌}
 use Rattle.dl_lit.specs.declared.literal.Tagged.{Tagged}
 use Rattle.dl_lit.specs.declared.literal.Family.{Family}
 use Rattle.dl_lit.specs.Literal.{tagged}

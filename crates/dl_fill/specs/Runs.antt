@@ -4,7 +4,12 @@ use Rattle.std.specs.List.{fold}
 use Rattle.dl_net.specs.Counting.{times}
 use Rattle.dl_fill.specs.Counters.{CounterLists, hit}
 use Rattle.dl_fill.specs.declared.wire.Gate.{Gate}
-use Rattle.dl_fill.specs.Prepared.{IsBegun}
+use Rattle.dl_net.specs.Numbers.{NetLists}
+use Rattle.dl_fill.specs.declared.wire.Wire.{Wire}
+use Rattle.dl_fill.specs.Wires.{edges, inputs}
+use Rattle.dl_fill.specs.Before.{Before}
+use Rattle.dl_fill.specs.Prepared.{IsBegun, touched_gate}
+use Rattle.dl_fill.specs.Touched.{Touches}
 
 -- the first `head` nodes of the queue have fired since w
 pub data Fires (edges : ℕ → List ℕ) (w : CounterLists) : ℕ → CounterLists → Type 0 where
@@ -18,9 +23,10 @@ pub record IsRunOut (edges : ℕ → List ℕ) (w v : CounterLists) : Type 0 whe
   pub fires : Fires edges w head v
   pub ends : length v.queue ≤ head
 
--- the counters after a run, from the start that gates and inputs say, of nodes that lead inside
-pub record HasRun (edges inputs : ℕ → List ℕ) (gate : ℕ → Gate) (w : CounterLists) : Type 0 where
+-- the counters after a run of the nodes that a region touches, from the start that their gates and inputs say
+pub record HasRun (N : NetLists) (b : Before) (members : List ℕ) (width literals : ℕ) (wires : List Wire) (gate : ℕ → ℕ → Gate) (rules : List ℕ) (w : CounterLists) : Type 0 where
+  pub touches : Touches N members rules
   pub middle : CounterLists
-  pub begun : IsBegun inputs gate (length middle.need) middle
-  pub inside : (x y : ℕ) → x < length middle.need → 0 < times y (edges x) → y < length middle.need
-  pub out : IsRunOut edges middle w
+  pub begun : IsBegun (inputs N b.inside width wires) (touched_gate width literals members rules gate) (length middle.need) middle
+  pub inside : (x y : ℕ) → x < length middle.need → 0 < times y (edges N width wires x) → y < length middle.need
+  pub out : IsRunOut (edges N width wires) middle w

@@ -1,15 +1,15 @@
 //! What the gates of literals read.
 
-ghost use Rattle.std.specs.Prelude.{◌≡◌, ◌<◌, ◌≤◌, false, true, length};
+ghost use Rattle.std.specs.Prelude.{◌≡◌, ◌<◌, ◌≤◌, ◌&&◌, ◌||◌, not, false, true, length};
 ghost use Rattle.dl_marks.specs.Marks.{places, marked};
 ghost use Rattle.dl_net.specs.Numbers as numbers;
 ghost use Rattle.dl_fill.specs.Before as before;
-ghost use Rattle.dl_fill.specs.Before.{plus_gate, minus_gate, some_gate, each_gate};
+ghost use Rattle.dl_fill.specs.Before.{before_of, on_gate, off_gate, plus_gate, minus_gate, some_gate, each_gate};
 
 use crate::wire::Gate;
 use dl_lit::{Family, Tag};
 use dl_marks::Marks;
-use dl_net::{Net, Region};
+use dl_net::{Link, Net, Region};
 
 /// Whether the number is in the region.
 pub fn is_inside(region: &Region, number: usize) -> bool
@@ -61,68 +61,131 @@ pub fn attack_holds(net: &Net, marks: &Marks, number: usize) -> bool
     false
 }
 
-/// When a literal that may prevail is concluded.
-pub fn gate_of_plus(inside: bool, surely: bool, attack_fails: bool, old: bool) -> Gate
-    ensures { result ≡ plus_gate inside surely attack_fails old }
+/// Whether the literal is in the region or has the tag.
+fn stands_on(marks: &Marks, region: &Region, tag: Tag, literal: usize) -> bool
+    requires bound { literal < region.now.bound }
+    requires room { literal < places marks.now }
+    ensures { result ≡ (before.is_inside region.now.members literal || marked marks.now tag literal) }
 {
-    if inside {
-        if surely {
-            Gate::Now
-        } else if attack_fails {
-            Gate::Every
-        } else {
-            Gate::Never
+    is_inside(region, literal) || marks.get(tag, literal)
+}
+
+/// Whether the literal is outside the region and has the tag.
+fn stands_off(marks: &Marks, region: &Region, tag: Tag, literal: usize) -> bool
+    requires bound { literal < region.now.bound }
+    requires room { literal < places marks.now }
+    ensures { result ≡ (not (before.is_inside region.now.members literal) && marked marks.now tag literal) }
+{
+    !is_inside(region, literal) && marks.get(tag, literal)
+}
+
+/// Whether each literal of the rule's body that stands outside the region is concluded.
+pub fn outside_is_on(net: &Net, marks: &Marks, region: &Region, family: Family, rule: usize) -> bool
+    requires bound { region.now.bound ≡ length net.now.names }
+    requires room { length net.now.names ≤ places marks.now }
+    ensures { result ≡ before.outside_is_on net.now (before_of marks.now region.now) family rule }
+{
+    let tag = Tag { plus: true, family };
+    let _names = net.names();
+    let _len = net.back_len(Link::Uses, rule);
+    let mut at = 0;
+    while let Some(literal) = net.body_once(rule, at) {
+        if !stands_on(marks, region, tag, literal) {
+            return false;
         }
-    } else if old {
+        at += 1;
+    }
+    true
+}
+
+/// Whether some literal of the rule's body that stands outside the region is refuted.
+pub fn outside_is_off(
+    net: &Net,
+    marks: &Marks,
+    region: &Region,
+    family: Family,
+    rule: usize,
+) -> bool
+    requires bound { region.now.bound ≡ length net.now.names }
+    requires room { length net.now.names ≤ places marks.now }
+    ensures { result ≡ before.outside_is_off net.now (before_of marks.now region.now) family rule }
+{
+    let tag = Tag {
+        plus: false,
+        family,
+    };
+    let _names = net.names();
+    let _len = net.back_len(Link::Uses, rule);
+    let mut at = 0;
+    while let Some(literal) = net.body_once(rule, at) {
+        if stands_off(marks, region, tag, literal) {
+            return true;
+        }
+        at += 1;
+    }
+    false
+}
+
+/// When a rule is on.
+pub fn gate_of_on(outside_is_on: bool) -> Gate
+    ensures { result ≡ on_gate outside_is_on }
+{
+    if outside_is_on {
+        Gate::Every
+    } else {
+        Gate::Never
+    }
+}
+
+/// When a rule is off.
+pub fn gate_of_off(outside_is_off: bool) -> Gate
+    ensures { result ≡ off_gate outside_is_off }
+{
+    if outside_is_off {
         Gate::Now
+    } else {
+        Gate::Either
+    }
+}
+
+/// When a literal that may prevail is concluded.
+pub fn gate_of_plus(surely: bool, attack_fails: bool) -> Gate
+    ensures { result ≡ plus_gate surely attack_fails }
+{
+    if surely {
+        Gate::Now
+    } else if attack_fails {
+        Gate::Every
     } else {
         Gate::Never
     }
 }
 
 /// When a literal that may fail is refuted.
-pub fn gate_of_minus(inside: bool, surely_not: bool, attack_holds: bool, old: bool) -> Gate
-    ensures { result ≡ minus_gate inside surely_not attack_holds old }
+pub fn gate_of_minus(surely_not: bool, attack_holds: bool) -> Gate
+    ensures { result ≡ minus_gate surely_not attack_holds }
 {
-    if inside {
-        if surely_not {
-            if attack_holds {
-                Gate::Now
-            } else {
-                Gate::Either
-            }
+    if surely_not {
+        if attack_holds {
+            Gate::Now
         } else {
-            Gate::Never
+            Gate::Either
         }
-    } else if old {
-        Gate::Now
     } else {
         Gate::Never
     }
 }
 
 /// When a literal that holds for sure, or by some rule, is concluded.
-pub fn gate_of_some(inside: bool, surely: bool, old: bool) -> Gate
-    ensures { result ≡ some_gate inside surely old }
+pub fn gate_of_some(surely: bool) -> Gate
+    ensures { result ≡ some_gate surely }
 {
-    if inside {
-        if surely { Gate::Now } else { Gate::Either }
-    } else if old {
-        Gate::Now
-    } else {
-        Gate::Never
-    }
+    if surely { Gate::Now } else { Gate::Either }
 }
 
 /// When a literal that may be refuted, and is so by each rule, is refuted.
-pub fn gate_of_each(inside: bool, may: bool, old: bool) -> Gate
-    ensures { result ≡ each_gate inside may old }
+pub fn gate_of_each(may: bool) -> Gate
+    ensures { result ≡ each_gate may }
 {
-    if inside {
-        if may { Gate::Every } else { Gate::Never }
-    } else if old {
-        Gate::Now
-    } else {
-        Gate::Never
-    }
+    if may { Gate::Every } else { Gate::Never }
 }

@@ -1,8 +1,9 @@
 //! Counters and the queue.
 
-ghost use Rattle.std.specs.Prelude.{◌≡◌, ◌<◌, ◌≤◌, ◌+◌, ◌*◌, ◌/◌, ◌∷◌, ◌++◌, [], length, slice_index, slice_set, OnOk, OnErr, replicate, ◌↔◌, IsTrue};
+ghost use Rattle.std.specs.Prelude.{◌≡◌, ◌<◌, ◌≤◌, ◌+◌, ◌∷◌, ◌++◌, [], length, slice_index, slice_set, OnOk, OnErr, replicate, ◌↔◌, ◌⊎◌, ℕ, Bool, false, slice_index_or, All, IsTrue, if◌then◌else◌};
 ghost use Rattle.dl_net.specs.Counting.{times};
 ghost use Rattle.dl_fill.specs.Counters.{hit, waiting};
+ghost use Rattle.dl_fill.specs.Before.{is_inside};
 
 use dl_base::Memory;
 use std::alloc::Global;
@@ -61,26 +62,10 @@ impl Counters {
         Ok(())
     }
 
-    /// Room for nodes of each kind at that many places at least. `Memory` leaves the counters as they were.
-    pub fn reserve(&mut self, width: usize, places: usize) -> Result<(), Memory>
-        requires width { 0 < width }
-        requires whole { length self.old.need / width * width ≡ length self.old.need }
-        ensures whole { length self.new.need / width * width ≡ length self.new.need }
-        ensures enough { OnOk result (places ≤ length self.new.need / width) }
-        ensures kept { length self.old.need / width ≤ length self.new.need / width }
-    {
-        if self.size() / width < places {
-            match places.checked_mul(width) {
-                Some(size) => self.renew(size)?,
-                None => return Err(Memory),
-            }
-        }
-        Ok(())
-    }
-
     /// For how many nodes there is room.
     pub fn size(&self) -> usize
-        ensures { result ≡ length self.now.need }
+        ensures size { result ≡ length self.now.need }
+        ensures few { length self.now.queue + waiting self.now.need ≤ length self.now.need }
     {
         self.need.len()
     }
@@ -101,13 +86,15 @@ impl Counters {
         self.places[place]
     }
 
-    /// Nothing waits, and nothing stands in the queue.
-    pub fn clear(&mut self)
-        ensures need { self.new.need ≡ replicate (length self.old.need) 0 }
+    /// Nothing stands in the queue any more. It costs no more than the queue is long.
+    pub fn drain(&mut self)
+        ensures need { self.new.need ≡ self.old.need }
         ensures queue { self.new.queue ≡ [] }
     {
-        self.need.as_mut_slice().fill(0);
-        self.fired.as_mut_slice().fill(false);
+        unset(
+            self.fired.as_mut_slice(),
+            &self.places.as_slice()[..self.len],
+        );
         self.len = 0;
     }
 
@@ -138,8 +125,7 @@ impl Counters {
     /// The node waits for that many hits.
     pub fn wait(&mut self, node: usize, hits: usize)
         requires node { node < length self.old.need }
-        requires free { slice_index self.old.need node ≡ 0 }
-        requires room { length self.old.queue + waiting self.old.need < length self.old.need }
+        requires room { (hits ≡ 0) ⊎ (length self.old.queue + waiting self.old.need < length self.old.need) }
         ensures { self.new ≡ record { need = slice_set self.old.need node hits; queue = self.old.queue } }
     {
         self.need[node] = hits;
@@ -154,5 +140,16 @@ impl Counters {
         self.places[self.len] = node;
         self.len += 1;
         self.fired[node] = true;
+    }
+}
+
+/// Sets the flags at these places to false.
+fn unset(flags: &mut [bool], places: &[usize])
+    requires { All (λ n. n < length flags.old) places.now }
+    ensures len { length flags.new ≡ length flags.old }
+    ensures unset { (y : ℕ) → slice_index_or flags.new y false ≡ (if is_inside places.now y then false else slice_index_or flags.old y false) }
+{
+    for place in places {
+        flags[*place] = false;
     }
 }

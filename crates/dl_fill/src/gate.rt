@@ -1,24 +1,78 @@
 //! What each node waits for.
 
-ghost use Rattle.std.specs.Prelude.{◌≡◌, ◌<◌, ◌≤◌, ◌+◌, length, slice_index};
+ghost use Rattle.std.specs.Prelude.{◌≡◌, ◌⊎◌, ◌<◌, ◌≤◌, ◌+◌, ◌^◌, length, filter};
+ghost use Rattle.dl_net.specs.Numbers.{back};
+ghost use Rattle.dl_net.specs.declared.link.Link.TheVariants as link_kind;
+ghost use Rattle.dl_fill.specs.declared.wire.Gate.TheVariants.{Never};
 ghost use Rattle.dl_fill.specs.Counters.{waiting};
-ghost use Rattle.dl_fill.specs.Wires.{inputs_at};
+ghost use Rattle.dl_fill.specs.Wires.{inner, inputs_at};
+ghost use Rattle.dl_fill.specs.Before.{is_inside};
 ghost use Rattle.dl_fill.specs.Gates.{hits_of, now_of};
-ghost use Rattle.dl_fill.specs.Prepared.{begun};
+ghost use Rattle.dl_fill.specs.Prepared.{begun, one_if};
 
 use crate::counters::Counters;
 use crate::wire::{Gate, Wire};
-use dl_net::Net;
+use dl_net::{Link, Net, Region};
+
+/// One more where it is inside.
+fn more_if(count: usize, inside: bool) -> usize
+    requires { count + 1 < 2 ^ 64 }
+    ensures { result ≡ count + one_if inside }
+{
+    if inside { count + 1 } else { count }
+}
+
+/// How many literals of the body of a rule are in the region.
+fn inside_len(net: &Net, region: &Region, rule: usize) -> usize
+    requires { region.now.bound ≡ length net.now.names }
+    ensures len { result ≡ length (filter (is_inside region.now.members) (back net.now link_kind.Uses rule)) }
+    ensures few { result < 2 ^ 32 }
+{
+    let _names = net.names();
+    let _len = net.back_len(Link::Uses, rule);
+    let mut count = 0;
+    let mut at = 0;
+    while let Some(literal) = net.body_once(rule, at) {
+        count = more_if(count, crate::attack::is_inside(region, literal));
+        at += 1;
+    }
+    count
+}
+
+/// How many inputs a link gives.
+fn inner_len(net: &Net, region: &Region, link: Link, place: usize) -> usize
+    requires { region.now.bound ≡ length net.now.names }
+    ensures len { result ≡ length (inner net.now (is_inside region.now.members) link place) }
+    ensures few { result < 2 ^ 32 }
+{
+    match link {
+        Link::Same => net.back_len(Link::Same, place),
+        Link::Uses => inside_len(net, region, place),
+        Link::Backs => net.back_len(Link::Backs, place),
+        Link::Proves => net.back_len(Link::Proves, place),
+        Link::Opposes => net.back_len(Link::Opposes, place),
+        Link::Defends => net.back_len(Link::Defends, place),
+        Link::Counters => net.back_len(Link::Counters, place),
+    }
+}
 
 /// How many inputs a node has.
-pub fn inputs_len(net: &Net, width: usize, wires: &[Wire], kind: usize, place: usize) -> usize
-    requires { length wires.now ≤ 32 }
-    ensures { result ≡ length (inputs_at net.now width wires.now kind place) }
+pub fn inputs_len(
+    net: &Net,
+    region: &Region,
+    width: usize,
+    wires: &[Wire],
+    kind: usize,
+    place: usize,
+) -> usize
+    requires wires { length wires.now ≤ 32 }
+    requires bound { region.now.bound ≡ length net.now.names }
+    ensures { result ≡ length (inputs_at net.now (is_inside region.now.members) width wires.now kind place) }
 {
     let mut len = 0;
     for w in wires {
         if w.to == kind {
-            len += net.back_len(w.link, place);
+            len += inner_len(net, region, w.link, place);
         }
     }
     len
@@ -49,8 +103,7 @@ fn fires_now(gate: Gate, inputs: usize) -> bool
 /// The node begins to wait, or goes into the queue.
 pub fn begin(counters: &mut Counters, node: usize, gate: Gate, inputs: usize)
     requires node { node < length counters.old.need }
-    requires free { slice_index counters.old.need node ≡ 0 }
-    requires room { length counters.old.queue + waiting counters.old.need < length counters.old.need }
+    requires room { (gate ≡ Never) ⊎ (length counters.old.queue + waiting counters.old.need < length counters.old.need) }
     ensures { counters.new ≡ begun counters.old node (hits_of gate inputs) (now_of gate inputs) }
 {
     let count = hits(gate, inputs);

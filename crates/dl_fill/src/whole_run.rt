@@ -1,17 +1,21 @@
-//! A run over all nodes of a family.
+//! A run over the nodes that a region touches.
 
-ghost use Rattle.std.specs.Prelude.{◌≡◌, ℕ, ◌*◌, ◌/◌, ◌%◌, ◌<◌, ◌≤◌, length};
+ghost use Rattle.std.specs.Prelude.{◌≡◌, ◌⊎◌, ℕ, ◌+◌, ◌-◌, ◌*◌, ◌/◌, ◌%◌, ◌<◌, ◌≤◌, [], length, slice_index, All};
 ghost use Rattle.dl_marks.specs.Marks.{places};
+ghost use Rattle.dl_net.specs.Counting.{times};
 ghost use Rattle.dl_net.specs.Numbers.{NetLists};
 ghost use Rattle.dl_fill.specs.declared.wire.Gate.{Gate};
-ghost use Rattle.dl_fill.specs.Before.{Before, before_of};
+ghost use Rattle.dl_fill.specs.declared.wire.Gate.TheVariants.{Never};
+ghost use Rattle.dl_fill.specs.Counters.{waiting};
+ghost use Rattle.dl_fill.specs.Before.{Before, before_of, is_inside};
 ghost use Rattle.dl_fill.specs.Wires.{inputs, edges, AreKinds};
-ghost use Rattle.dl_fill.specs.Prepared.{IsBegun, IsClean, HasPlaces};
+ghost use Rattle.dl_fill.specs.Prepared.{IsClean, Begins, nodes_at, all_nodes};
 ghost use Rattle.dl_fill.specs.Runs.{HasRun};
 
 use crate::counters::Counters;
 use crate::gate::{begin, inputs_len};
 use crate::queue::run;
+use crate::touch::touch;
 use crate::wire::{Gate, Wire};
 use dl_marks::Marks;
 use dl_net::{Net, Region};
@@ -20,63 +24,188 @@ use dl_net::{Net, Region};
 pub trait Gates {
     ghost tells: { Self → NetLists → Before → ℕ → ℕ → Gate };
 
-    /// The gate of a node.
+    /// The gate of a node that the region touches.
     fn gate(&self, net: &Net, marks: &Marks, region: &Region, kind: usize, place: usize) -> Gate
         requires bound { region.now.bound ≡ length net.now.names }
         requires room { length net.now.names ≤ places marks.now }
         ensures { result ≡ tells self.now net.now (before_of marks.now region.now) kind place };
 }
 
-/// Every node begins to wait, or goes into the queue.
-fn prepare<G: Gates>(
+/// Gates that never open.
+struct NoGates;
+
+impl Gates for NoGates {
+    ghost tells = { λ _ _ _ _ _. Never };
+
+    fn gate(
+        &self,
+        _net: &Net,
+        _marks: &Marks,
+        _region: &Region,
+        _kind: usize,
+        _place: usize,
+    ) -> Gate {
+        Gate::Never
+    }
+}
+
+/// The nodes of `count` kinds from `from` on, at a place, begin to wait, or go into the queue.
+fn begin_place<G: Gates>(
     gates: &G,
     net: &Net,
     width: usize,
     wires: &[Wire],
     marks: &Marks,
     region: &Region,
+    from: usize,
+    count: usize,
+    place: usize,
     counters: &mut Counters,
 )
-    requires clean { IsClean counters.old }
-    requires width { 0 < width }
+    requires kinds { from + count ≤ width }
     requires wires { length wires.now ≤ 32 }
     requires bound { region.now.bound ≡ length net.now.names }
     requires room { length net.now.names ≤ places marks.now }
-    ensures begun { IsBegun (inputs net.now width wires.now) (λ y. G.tells gates.now net.now (before_of marks.now region.now) (y % width) (y / width)) (length counters.old.need) counters.new }
-    ensures size { length counters.new.need ≡ length counters.old.need }
+    requires nodes { place * width + width ≤ length counters.old.need }
+    requires free { ((k i : ℕ) → G.tells gates.now net.now (before_of marks.now region.now) k i ≡ Never) ⊎ (length counters.old.queue + waiting counters.old.need + count ≤ length counters.old.need) }
+    ensures { Begins (inputs net.now (is_inside region.now.members) width wires.now) (λ y. G.tells gates.now net.now (before_of marks.now region.now) (y % width) (y / width)) (nodes_at width from count place) counters.old counters.new }
 {
-    for node in 0..counters.size() {
-        let kind = node % width;
-        let place = node / width;
+    let _size = counters.size();
+    for k in 0..count {
+        let kind = from + k;
         let gate = gates.gate(net, marks, region, kind, place);
-        let inputs = inputs_len(net, width, wires, kind, place);
-        begin(counters, node, gate, inputs);
+        let inputs = inputs_len(net, region, width, wires, kind, place);
+        begin(counters, place * width + kind, gate, inputs);
     }
 }
 
-/// Runs the counters from the start until no more nodes fire.
+/// The nodes of `count` kinds from `from` on, at each of the places, begin to wait, or go into the queue.
+fn begin_places<G: Gates>(
+    gates: &G,
+    net: &Net,
+    width: usize,
+    wires: &[Wire],
+    marks: &Marks,
+    region: &Region,
+    from: usize,
+    count: usize,
+    all: &Region,
+    counters: &mut Counters,
+)
+    requires kinds { from + count ≤ width }
+    requires wires { length wires.now ≤ 32 }
+    requires bound { region.now.bound ≡ length net.now.names }
+    requires room { length net.now.names ≤ places marks.now }
+    requires nodes { All (λ i. i * width + width ≤ length counters.old.need) all.now.members }
+    requires free { ((k i : ℕ) → G.tells gates.now net.now (before_of marks.now region.now) k i ≡ Never) ⊎ (length counters.old.queue + waiting counters.old.need + length all.now.members * count ≤ length counters.old.need) }
+    ensures { Begins (inputs net.now (is_inside region.now.members) width wires.now) (λ y. G.tells gates.now net.now (before_of marks.now region.now) (y % width) (y / width)) (all_nodes width from count all.now.members) counters.old counters.new }
+{
+    let _len = all.len();
+    let mut at = 0;
+    while let Some(place) = all.at(at) {
+        begin_place(
+            gates, net, width, wires, marks, region, from, count, place, counters,
+        );
+        at += 1;
+    }
+}
+
+/// Runs the counters of what the region touches until no more nodes fire. Kinds below `literals` are those of literals.
 pub fn solve<G: Gates>(
     gates: &G,
     net: &Net,
     width: usize,
+    literals: usize,
     wires: &[Wire],
     marks: &Marks,
     region: &Region,
+    rules: &mut Region,
     counters: &mut Counters,
 )
-    requires width { 0 < width }
+    requires width { literals < width }
     requires kinds { AreKinds width wires.now }
     requires wires { length wires.now ≤ 32 }
-    requires size { (length counters.old.need / width) * width ≡ length counters.old.need }
-    requires names { length net.now.names ≤ length counters.old.need / width }
-    requires rules { length net.now.theory.rules ≤ length counters.old.need / width }
+    requires clean { IsClean counters.old }
+    requires none { rules.old.members ≡ [] }
+    requires size { length counters.old.need ≡ rules.old.bound * width }
+    requires names { length net.now.names ≤ rules.old.bound }
+    requires rules { length net.now.theory.rules ≤ rules.old.bound }
     requires bound { region.now.bound ≡ length net.now.names }
     requires room { length net.now.names ≤ places marks.now }
-    ensures run { HasRun (edges net.now width wires.now) (inputs net.now width wires.now) (λ y. G.tells gates.now net.now (before_of marks.now region.now) (y % width) (y / width)) counters.new }
+    ensures run { HasRun net.now (before_of marks.now region.now) region.now.members width literals wires.now (G.tells gates.now net.now (before_of marks.now region.now)) rules.new.members counters.new }
     ensures size { length counters.new.need ≡ length counters.old.need }
+    ensures bound { rules.new.bound ≡ rules.old.bound }
 {
     let _names = net.names();
-    counters.clear();
-    prepare(gates, net, width, wires, marks, region, counters);
+    let _size = counters.size();
+    let _len = region.len();
+    touch(net, region, rules);
+    let _touched = rules.len();
+    begin_places(
+        gates, net, width, wires, marks, region, 0, literals, region, counters,
+    );
+    begin_places(
+        gates,
+        net,
+        width,
+        wires,
+        marks,
+        region,
+        literals,
+        width - literals,
+        rules,
+        counters,
+    );
     run(net, width, wires, counters);
+}
+
+/// Leaves the counters clean, at the cost of what the region touches.
+pub fn tidy(
+    net: &Net,
+    width: usize,
+    literals: usize,
+    marks: &Marks,
+    region: &Region,
+    rules: &mut Region,
+    counters: &mut Counters,
+)
+    requires width { literals < width }
+    requires size { length counters.old.need ≡ rules.old.bound * width }
+    requires names { length net.now.names ≤ rules.old.bound }
+    requires bound { region.now.bound ≡ length net.now.names }
+    requires room { length net.now.names ≤ places marks.now }
+    requires idle { (y : ℕ) → times y (all_nodes width 0 literals region.now.members) ≡ 0 → times y (all_nodes width literals (width - literals) rules.old.members) ≡ 0 → slice_index counters.old.need y ≡ 0 }
+    ensures clean { IsClean counters.new }
+    ensures none { rules.new.members ≡ [] }
+    ensures size { length counters.new.need ≡ length counters.old.need }
+    ensures bound { rules.new.bound ≡ rules.old.bound }
+{
+    let _len = region.len();
+    let _touched = rules.len();
+    begin_places(
+        &NoGates,
+        net,
+        width,
+        &[],
+        marks,
+        region,
+        0,
+        literals,
+        region,
+        counters,
+    );
+    begin_places(
+        &NoGates,
+        net,
+        width,
+        &[],
+        marks,
+        region,
+        literals,
+        width - literals,
+        rules,
+        counters,
+    );
+    rules.clear();
+    counters.drain();
 }

@@ -34,7 +34,7 @@ module _ (N : NetLists) (f g : Family) (distinct : ¬ (f ≡ g)) (region : Numbe
   }
 
   pub both_filled : IsFamilyWritten Second g region.members mid new → All (λ q. q < region.bound) region.members
-      → IsSolved N First f → IsSolved N Second g → IsFilled N (λ h. (h ≡ f) ⊎ (h ≡ g)) old new
+      → IsSolved N region.members First f → IsSolved N region.members Second g → IsFilled N (λ h. (h ≡ f) ⊎ (h ≡ g)) old new
   both_filled second below solved solved' =
       let before : IsRight N mid f = written_right N (λ h. (h ≡ f) ⊎ (h ≡ g)) f (inl refl) region First old mid ready below solved first in
       let after : IsRight N new f = λ plus n lt.

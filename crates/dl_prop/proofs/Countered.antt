@@ -25,7 +25,7 @@ module _ (T : TheoryLists) (got : Tagged → Type 0) where
   Falls r = IsOff got Support r ⊎ Any (λ u. Countering T r u × IsOn got Propagating u) T.rules
 
   module _ (q : Literal) where
-    counters_opposes : (r u : Rule) → r.head ≡ q → Countering T r u → Opposes T q u
+    pub counters_opposes : (r u : Rule) → r.head ≡ q → Countering T r u → Opposes T q u
     counters_opposes r u e c = subst (λ (x : Literal). Opposes T x u) e (attack_turns T u.head r.head c.1)
 
     opposes_counters : (r u : Rule) → r.head ≡ q → Opposes T q u → Beats T u r → Countering T r u

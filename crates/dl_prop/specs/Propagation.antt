@@ -1,13 +1,16 @@
 -- The families propagating and support together: their wires and gates.
-use Rattle.std.specs.Prelude.{◌≡◌, ◌⊎◌, ℕ, zero, suc, true, false, cond, List, [], ◌∷◌, length, nat_lt}
+use Rattle.std.specs.Prelude.{◌≡◌, ◌⊎◌, ℕ, zero, suc, Bool, true, false, cond, Option, None, Some, List, [], ◌∷◌, length, nat_lt}
 use Rattle.dl_lit.specs.declared.literal.Family.{Family}
 use Rattle.dl_lit.specs.declared.literal.Family.TheVariants.{Definite, Propagating, Support}
+use Rattle.dl_lit.specs.declared.literal.Tag.{Tag}
 use Rattle.dl_net.specs.Numbers.{NetLists}
 use Rattle.dl_net.specs.declared.link.Link.TheVariants.{Same, Uses, Backs, Opposes, Defends, Counters}
 use Rattle.dl_fill.specs.declared.wire.Wire.{Wire}
+use Rattle.dl_fill.specs.declared.basis.Basis.{Basis}
+use Rattle.dl_fill.specs.declared.basis.Basis.TheVariants.{Prevailing, Failing, Sure, Unsure, Nothing}
 use Rattle.dl_fill.specs.declared.wire.Gate.{Gate}
 use Rattle.dl_fill.specs.declared.wire.Gate.TheVariants.{Every, Either, Never}
-use Rattle.dl_fill.specs.Before.{Before, tag_of, attack_fails, attack_holds, plus_gate, minus_gate, some_gate, each_gate}
+use Rattle.dl_fill.specs.Before.{Before, tag_of, attack_fails, attack_holds, outside_is_on, outside_is_off, on_gate, off_gate, plus_gate, minus_gate, some_gate, each_gate}
 
 -- the two families, each of which looks at the other
 abbrev pub IsOfPair : Family → Type 0
@@ -41,38 +44,49 @@ propagation_wires =
     ∷ record { from = 13; link = Backs; to = 5 }
     ∷ []
 
+-- the tags that the kinds of a literal stand for
+abbrev pub propagation_tags : List (Option Tag)
+propagation_tags =
+    Some (tag_of true Propagating)
+    ∷ Some (tag_of false Propagating)
+    ∷ None
+    ∷ None
+    ∷ Some (tag_of true Support)
+    ∷ Some (tag_of false Support)
+    ∷ []
+
+-- what their gates read of the definite family
+abbrev pub propagation_bases : List Basis
+propagation_bases = Prevailing ∷ Failing ∷ Nothing ∷ Nothing ∷ Sure ∷ Unsure ∷ []
+
 -- the gate of a literal's node, by its kind
-abbrev pub literal_gate : NetLists → Before → ℕ → ℕ → Gate
-literal_gate N b zero q =
-    plus_gate (b.inside q) (b.marked (tag_of true Definite) q) (attack_fails N b.marked q) (b.marked (tag_of true Propagating) q)
-literal_gate N b (suc zero) q =
-    minus_gate (b.inside q) (b.marked (tag_of false Definite) q) (attack_holds N b.marked q) (b.marked (tag_of false Propagating) q)
-literal_gate N b (suc (suc zero)) q = Either
-literal_gate N b (suc (suc (suc zero))) q = Every
-literal_gate N b (suc (suc (suc (suc zero)))) q =
-    some_gate (b.inside q) (b.marked (tag_of true Definite) q) (b.marked (tag_of true Support) q)
-literal_gate N b (suc (suc (suc (suc (suc zero))))) q =
-    each_gate (b.inside q) (b.marked (tag_of false Definite) q) (b.marked (tag_of false Support) q)
-literal_gate N b (suc (suc (suc (suc (suc (suc _)))))) q = Never
+abbrev pub literal_gate : NetLists → (Tag → ℕ → Bool) → ℕ → ℕ → Gate
+literal_gate N marked zero q = plus_gate (marked (tag_of true Definite) q) (attack_fails N marked q)
+literal_gate N marked (suc zero) q = minus_gate (marked (tag_of false Definite) q) (attack_holds N marked q)
+literal_gate N marked (suc (suc zero)) q = Either
+literal_gate N marked (suc (suc (suc zero))) q = Every
+literal_gate N marked (suc (suc (suc (suc zero)))) q = some_gate (marked (tag_of true Definite) q)
+literal_gate N marked (suc (suc (suc (suc (suc zero))))) q = each_gate (marked (tag_of false Definite) q)
+literal_gate N marked (suc (suc (suc (suc (suc (suc _)))))) q = Never
 
 -- the gate of a rule's node, by its kind less 6
-abbrev pub rule_gate : ℕ → Gate
-rule_gate zero = Every
-rule_gate (suc zero) = Either
-rule_gate (suc (suc zero)) = Either
-rule_gate (suc (suc (suc zero))) = Every
-rule_gate (suc (suc (suc (suc zero)))) = Every
-rule_gate (suc (suc (suc (suc (suc zero))))) = Either
-rule_gate (suc (suc (suc (suc (suc (suc zero)))))) = Every
-rule_gate (suc (suc (suc (suc (suc (suc (suc zero))))))) = Either
-rule_gate (suc (suc (suc (suc (suc (suc (suc (suc _)))))))) = Never
+abbrev pub rule_gate : NetLists → Before → ℕ → ℕ → Gate
+rule_gate N b zero r = on_gate (outside_is_on N b Propagating r)
+rule_gate N b (suc zero) r = off_gate (outside_is_off N b Propagating r)
+rule_gate N b (suc (suc zero)) r = Either
+rule_gate N b (suc (suc (suc zero))) r = Every
+rule_gate N b (suc (suc (suc (suc zero)))) r = on_gate (outside_is_on N b Support r)
+rule_gate N b (suc (suc (suc (suc (suc zero))))) r = off_gate (outside_is_off N b Support r)
+rule_gate N b (suc (suc (suc (suc (suc (suc zero)))))) r = Every
+rule_gate N b (suc (suc (suc (suc (suc (suc (suc zero))))))) r = Either
+rule_gate N b (suc (suc (suc (suc (suc (suc (suc (suc _)))))))) r = Never
 
 -- the gate of a node, by its kind and place
 abbrev pub propagation_gate : NetLists → Before → ℕ → ℕ → Gate
-propagation_gate N b zero q = cond (nat_lt q (length N.names)) (literal_gate N b 0 q) Never
-propagation_gate N b (suc zero) q = cond (nat_lt q (length N.names)) (literal_gate N b 1 q) Never
-propagation_gate N b (suc (suc zero)) q = cond (nat_lt q (length N.names)) (literal_gate N b 2 q) Never
-propagation_gate N b (suc (suc (suc zero))) q = cond (nat_lt q (length N.names)) (literal_gate N b 3 q) Never
-propagation_gate N b (suc (suc (suc (suc zero)))) q = cond (nat_lt q (length N.names)) (literal_gate N b 4 q) Never
-propagation_gate N b (suc (suc (suc (suc (suc zero))))) q = cond (nat_lt q (length N.names)) (literal_gate N b 5 q) Never
-propagation_gate N b (suc (suc (suc (suc (suc (suc k)))))) r = cond (nat_lt r (length N.theory.rules)) (rule_gate k) Never
+propagation_gate N b zero q = cond (nat_lt q (length N.names)) (literal_gate N b.marked 0 q) Never
+propagation_gate N b (suc zero) q = cond (nat_lt q (length N.names)) (literal_gate N b.marked 1 q) Never
+propagation_gate N b (suc (suc zero)) q = cond (nat_lt q (length N.names)) (literal_gate N b.marked 2 q) Never
+propagation_gate N b (suc (suc (suc zero))) q = cond (nat_lt q (length N.names)) (literal_gate N b.marked 3 q) Never
+propagation_gate N b (suc (suc (suc (suc zero)))) q = cond (nat_lt q (length N.names)) (literal_gate N b.marked 4 q) Never
+propagation_gate N b (suc (suc (suc (suc (suc zero))))) q = cond (nat_lt q (length N.names)) (literal_gate N b.marked 5 q) Never
+propagation_gate N b (suc (suc (suc (suc (suc (suc k)))))) r = cond (nat_lt r (length N.theory.rules)) (rule_gate N b k r) Never

@@ -12,5 +12,5 @@ mod fill;
 mod tests;
 mod work;
 
-pub use fill::fill_prop;
-pub use work::PropWork;
+pub use fill::{PropGates, bases, fill_prop, tags, wires};
+pub use work::{LITERALS, PropWork, WIDTH};

@@ -3,28 +3,33 @@
 ghost use Rattle.std.specs.Prelude.{◌≡◌, ◌≤◌, OnOk};
 
 use dl_base::Memory;
-use dl_fill::Counters;
+use dl_fill::{Parts, make_parts, no_parts};
 use std::alloc::Global;
 use std::marker::Model;
 
 /// How many kinds of nodes the two families have.
-pub(crate) const WIDTH: usize = 14;
+pub const WIDTH: usize = 14;
+
+/// How many of them are those of literals.
+pub const LITERALS: usize = 6;
 
 /// Counters for a fill of the families propagating and support, with room for so many rules and names. A fill takes no memory.
 #[derive(Drop)]
 pub struct PropWork {
-    pub(crate) counters: Counters,
+    alloc: Global,
+    pub(crate) places: usize,
+    pub(crate) parts: Parts,
 }
 
 impl Model for PropWork {
-    ghost use Rattle.std.specs.Prelude.{◌≡◌, ◌*◌, ◌/◌, length};
     ghost use Rattle.dl_fill.specs.Prepared.{Room};
+    ghost use Rattle.dl_fill.specs.Idle.{IsIdle};
 
     ghost Value = { Room };
 
-    ghost view = { λ w. record { rules = length w.counters.need / 14; names = length w.counters.need / 14 } };
+    ghost view = { λ w. record { rules = w.places; names = w.places } };
 
-    ghost invariant = { λ w. length w.counters.need / 14 * 14 ≡ length w.counters.need };
+    ghost invariant = { λ w. IsIdle 14 w.places w.parts.counters w.parts.rules };
 }
 
 impl PropWork {
@@ -34,7 +39,9 @@ impl PropWork {
         ensures names { result.names ≡ 0 }
     {
         PropWork {
-            counters: Counters::make(alloc),
+            alloc,
+            places: 0,
+            parts: no_parts(alloc, WIDTH),
         }
     }
 
@@ -46,6 +53,10 @@ impl PropWork {
         ensures names { self.old.names ≤ self.new.names }
     {
         let places = if rules < names { names } else { rules };
-        self.counters.reserve(WIDTH, places)
+        if self.places < places {
+            self.parts = make_parts(self.alloc, WIDTH, places)?;
+            self.places = places;
+        }
+        Ok(())
     }
 }

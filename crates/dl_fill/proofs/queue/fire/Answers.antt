@@ -1,4 +1,4 @@
-use Rattle.std.proofs.Common.{◌+◌, ◌*◌, length, arith, ap, ◌∙◌, get_or, ◌/◌}
+use Rattle.std.proofs.Common.{length, arith, ap, ◌∙◌, get_or, ◌/◌}
 use Rattle.dl_net.specs.Numbers.{next}
 use Rattle.dl_net.specs.declared.link.Link.TheVariants.{Same}
 use Rattle.dl_fill.proofs.Engine.{length-hits}

@@ -5,7 +5,8 @@ use Rattle.dl_net.specs.Counting.{times}
 use Rattle.dl_fill.specs.Counters.{CounterLists, hit}
 use Rattle.dl_fill.specs.Wires.{edges}
 use Rattle.dl_fill.specs.Runs.{Fires}
-use Rattle.dl_fill.proofs.Hits.{times-get_or, queued-hits}
+use Rattle.dl_fill.proofs.Times.{times-get_or}
+use Rattle.dl_fill.proofs.Hits.{queued-hits}
 use Rattle.dl_fill.proofs.queue.run.Goals as goal
 
 pub loop-head-init : goal.loop-head-init

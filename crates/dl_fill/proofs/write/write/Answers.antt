@@ -1,6 +1,5 @@
-use Rattle.std.proofs.Common.{◌+◌, ◌<◌, ◌≤◌, get_or, length, arith, ap, sym, ◌∙◌, take, refl, subst, List, ℕ}
+use Rattle.std.proofs.Common.{◌+◌, ◌<◌, get_or, length, arith, sym, ◌∙◌, take, subst}
 use Rattle.std.proofs.lemmas.Option.{slice_get-get_or}
-use Rattle.dl_marks.specs.Marks.{Marking}
 use Rattle.dl_fill.specs.Filled.{IsWritten}
 use Rattle.dl_fill.proofs.Written.{written_more}
 use Rattle.dl_fill.proofs.write.write.Goals as goal

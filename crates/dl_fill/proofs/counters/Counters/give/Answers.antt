@@ -1,7 +1,7 @@
 use Rattle.std.proofs.Common.{arith, ◌∙◌, length-set, length, ◌<◌, ◌+◌, ◌≡◌, take, subst, sym}
 use Rattle.std.proofs.lemmas.List.{length-take-le}
 use Rattle.dl_fill.specs.Counters.{CounterLists, waiting}
-use Rattle.dl_fill.proofs.Kept.{fires_push}
+use Rattle.dl_fill.proofs.Kept.{within_push, fires_push}
 use Rattle.dl_fill.proofs.counters.Counters.give.Goals as goal
 
 pub invariant_of-self : goal.invariant_of-self
@@ -16,4 +16,5 @@ invariant_of-self c =
       flags = length-set _ _ _ ∙ c.self.invariant.flags;
       few = omega (arith, room, len);
       fires = fires_push c.self.inside.places.items c.self.inside.len c.args.node (length c.self.inside.need.items) c.self.inside.fired.items c.self.invariant.flags (omega (arith, room, len, c.self.invariant.room)) here c.self.invariant.fires;
+      within = within_push c.self.inside.places.items c.self.inside.len c.args.node (length c.self.inside.need.items) (omega (arith, room, len, c.self.invariant.room)) here c.self.invariant.within;
     }

@@ -1,6 +1,6 @@
 use Rattle.std.proofs.Common.{◌≡◌, arith, ◌∙◌, length-set, length, set, get_or, ℕ, sym, ◌+◌, ◌-◌, ◌<◌, subst}
 use Rattle.dl_fill.specs.Counters.{CounterLists, waiting}
-use Rattle.dl_fill.proofs.Kept.{fires_push, waiting_last}
+use Rattle.dl_fill.proofs.Kept.{within_push, fires_push, waiting_last}
 use Rattle.std.proofs.lemmas.List.{get_or_default}
 use Rattle.dl_fill.proofs.counters.Counters.hit.Goals as goal
 
@@ -16,4 +16,9 @@ invariant_of-self c =
       flags = length-set _ _ _ ∙ c.self.invariant.flags ∙ sym (length-set _ _ _);
       few = omega (arith, length-set {A = ℕ}, w, c.self.invariant.few);
       fires = λ y lt. fires_push c.self.inside.places.items c.self.inside.len c.args.node (length c.self.inside.need.items) c.self.inside.fired.items c.self.invariant.flags (omega (arith, w, c.self.invariant.few, c.self.invariant.room)) here c.self.invariant.fires y (omega (arith, length-set {A = ℕ}));
+      within = λ y m. omega (
+        arith,
+        within_push c.self.inside.places.items c.self.inside.len c.args.node (length c.self.inside.need.items) (omega (arith, w, c.self.invariant.few, c.self.invariant.room)) here c.self.invariant.within y m,
+        length-set {A = ℕ},
+      );
     }

@@ -1,0 +1,41 @@
+use Rattle.std.proofs.Common.{ℕ, ◌+◌, ◌*◌, ◌/◌, ◌%◌, ◌<◌, List, ◌∷◌, [], inl, inr, arith, subst, sym, ◌∙◌}
+use Rattle.dl_fill.specs.Before.{before_of, is_inside}
+use Rattle.dl_fill.specs.Wires.{inputs}
+use Rattle.dl_fill.specs.Prepared.{Begins, nodes_at}
+use Rattle.dl_fill.proofs.Starting.{begins_one, begins_join, length-nodes, nodes_more, node_fresh, gate_at, inputs_of}
+use Rattle.dl_fill.proofs.whole_run.begin_place.Goals as goal
+
+pub begin-requires-clause-room : goal.begin-requires-clause-room
+begin-requires-clause-room g c =
+    elim c.requires.free [
+      | inl never ↦ inl (c.gate-gate.ensures ∙ never (c.args.from + c.loop-k.k) c.args.place)
+      | inr room ↦ inr (omega (
+        arith,
+        room,
+        c.loop-k-test.true,
+        c.loop-k.invariant.begins.few,
+        c.loop-k.invariant.begins.size,
+        length-nodes c.args.width c.args.from c.loop-k.k c.args.place,
+      ))
+    ]
+
+pub loop-k-preserved : goal.loop-k-preserved
+loop-k-preserved g c =
+    let small : c.args.from + c.loop-k.k < c.args.width = omega (arith, c.requires.kinds, c.loop-k-test.true) in
+    record {
+      begins =
+          subst (λ (xs : List ℕ). Begins (inputs c.args.net.now (is_inside c.args.region.now.members) c.args.width c.args.wires.now)
+          (λ y. g.G.Gates.tells c.args.gates.now c.args.net.now (before_of c.args.marks.now c.args.region.now) (y % c.args.width) (y / c.args.width)) xs c.args.counters.now c.begin.new.counters)
+          (sym (nodes_more c.args.width c.args.from c.loop-k.k c.args.place))
+          (begins_join (inputs c.args.net.now (is_inside c.args.region.now.members) c.args.width c.args.wires.now)
+          (λ y. g.G.Gates.tells c.args.gates.now c.args.net.now (before_of c.args.marks.now c.args.region.now) (y % c.args.width) (y / c.args.width))
+          (nodes_at c.args.width c.args.from c.loop-k.k c.args.place) ((c.args.place * c.args.width + (c.args.from + c.loop-k.k)) ∷ []) c.args.counters.now c.loop-k.counters c.begin.new.counters
+          c.loop-k.invariant.begins
+          (begins_one (inputs c.args.net.now (is_inside c.args.region.now.members) c.args.width c.args.wires.now)
+          (λ y. g.G.Gates.tells c.args.gates.now c.args.net.now (before_of c.args.marks.now c.args.region.now) (y % c.args.width) (y / c.args.width))
+          c.loop-k.counters c.begin.new.counters (c.args.place * c.args.width + (c.args.from + c.loop-k.k)) c.gate-gate.result c.inputs_len-inputs.result
+          (omega (arith, small, c.requires.nodes, c.loop-k.invariant.begins.size)) c.begin.ensures
+          (c.gate-gate.ensures ∙ gate_at (g.G.Gates.tells c.args.gates.now c.args.net.now (before_of c.args.marks.now c.args.region.now)) c.args.width c.args.place (c.args.from + c.loop-k.k) small)
+          (c.inputs_len-inputs.ensures ∙ inputs_of c.args.net.now (is_inside c.args.region.now.members) c.args.width c.args.wires.now c.args.place (c.args.from + c.loop-k.k) small))
+          (λ y h. node_fresh c.args.width c.args.from c.loop-k.k c.args.place y small h));
+    }

@@ -1,0 +1,55 @@
+//! The rules that a region touches.
+
+ghost use Rattle.std.specs.Prelude.{◌≡◌, ℕ, ◌<◌, ◌≤◌, length, slice_get, Contains};
+ghost use Rattle.dl_net.specs.Counting.{times};
+ghost use Rattle.dl_net.specs.Numbers as numbers;
+ghost use Rattle.dl_fill.specs.Touched.{Touches, Grows};
+
+use dl_net::{Net, Region};
+
+/// Adds the rules with that head.
+fn touch_heads(net: &Net, number: usize, rules: &mut Region)
+    requires room { length net.now.theory.rules ≤ rules.old.bound }
+    ensures there { (r : ℕ) → 0 < times r (numbers.heads net.now number) → 0 < times r rules.new.members }
+    ensures grows { Grows rules.old rules.new }
+{
+    let _rules = net.rules_len();
+    let _names = net.names();
+    let mut at = 0;
+    while let Some(rule) = net.heads(number, at) {
+        rules.put(rule);
+        at += 1;
+    }
+}
+
+/// Adds the rules for each literal that attacks the number.
+fn touch_against(net: &Net, number: usize, rules: &mut Region)
+    requires number { number < length net.now.names }
+    requires room { length net.now.theory.rules ≤ rules.old.bound }
+    ensures there { (c : ℕ) → 0 < times c (numbers.attackers_row net.now (numbers.literal_at net.now number)) → (u : ℕ) → 0 < times u (numbers.heads net.now c) → 0 < times u rules.new.members }
+    ensures grows { Grows rules.old rules.new }
+{
+    let _names = net.names();
+    let mut at = 0;
+    while let Some(attacker) = net.attacker(number, at) {
+        touch_heads(net, attacker, rules);
+        at += 1;
+    }
+}
+
+/// Makes the rules those for the members of the region and those against them.
+pub fn touch(net: &Net, region: &Region, rules: &mut Region)
+    requires bound { region.now.bound ≡ length net.now.names }
+    requires room { length net.now.theory.rules ≤ rules.old.bound }
+    ensures touches { Touches net.now region.now.members rules.new.members }
+    ensures bound { rules.new.bound ≡ rules.old.bound }
+{
+    let _len = region.len();
+    let _names = net.names();
+    let mut at = 0;
+    while let Some(number) = region.at(at) {
+        touch_heads(net, number, rules);
+        touch_against(net, number, rules);
+        at += 1;
+    }
+}
