@@ -1,2 +1,5 @@
 mod Families
+mod Growth
+mod Kept
+mod News
 mod Whole

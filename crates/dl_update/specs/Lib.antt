@@ -1,1 +1,4 @@
 pub mod Unmarked
+pub mod Room
+pub mod Drafts
+pub mod KeptDraft

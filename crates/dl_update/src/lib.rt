@@ -1,11 +1,15 @@
-//! Right marks for a whole net.
+//! Right marks for a whole net, and a theory whose marks are kept under edits.
 //!
-//! `family_marks` and `all_marks` begin with no mark at any number and fill the region of all numbers, family after family:
-//! first the definite one, then those that stand on it. What they give is right: a mark stands exactly where its tagged
-//! literal follows from the net's theory.
+//! Marks are right where a mark stands exactly if its tagged literal follows from the theory. They begin with no mark at any
+//! number, and the region of all numbers is filled, family after family: first the definite one, then those that stand on it.
+//! `family_marks` fills what one family needs. A `Draft` has the marks of all families, and makes them anew after each edit.
 #![tactic(auto)]
 
+mod draft;
+mod places;
 mod saturate;
 mod unmarked;
+mod works;
 
-pub use saturate::{all_marks, family_marks};
+pub use draft::Draft;
+pub use saturate::family_marks;

@@ -6,9 +6,11 @@ ghost use Rattle.dl_theory.specs.Marks.{AreRight};
 ghost use Rattle.dl_marks.specs.Marks.{places};
 ghost use Rattle.dl_fill.specs.Filled.{IsReady, IsFilled, IsRight, stands};
 ghost use Rattle.dl_prop.specs.Propagation.{IsOfPair};
-ghost use Rattle.dl_update.specs.Unmarked.{IsWhole};
+ghost use Rattle.dl_update.specs.Room.{HasRoom};
+ghost use Rattle.dl_update.specs.Unmarked.{IsUnmarked, IsWhole};
 
 use crate::unmarked::{everywhere, no_marks};
+use crate::works::Works;
 use dl_base::Memory;
 use dl_block::{BlockWork, fill_block};
 use dl_definite::{DefiniteWork, fill_definite};
@@ -98,14 +100,39 @@ pub fn family_marks<L: Ledger>(
     Ok(marks)
 }
 
+/// Makes the marks of a net right where none stands at its names. Takes no memory.
+pub fn fill_all<L: Ledger>(
+    net: &Net,
+    region: &Region,
+    works: &mut Works,
+    marks: &mut Marks,
+    steps: &mut Steps<L>,
+)
+    requires room { HasRoom (length net.now.theory.rules) (length net.now.names) works.old }
+    requires whole { IsWhole net.now region.now }
+    requires unmarked { IsUnmarked (length net.now.names) marks.old }
+    ensures { AreRight net.now.theory net.now.names (places marks.new) (stands marks.new) }
+{
+    let _members = region.len();
+    fill_definite(net, marks, region, &mut works.definite, steps);
+    fill_block(net, marks, region, &mut works.blocking, steps);
+    fill_prop(net, marks, region, &mut works.pair, steps);
+}
+
 /// Marks that are right in all families, with a place for each name. `Memory` where there is none for the marks or for
 /// the fills.
-pub fn all_marks<L: Ledger>(alloc: Global, net: &Net, steps: &mut Steps<L>) -> Result<Marks, Memory>
+pub fn all_marks<L: Ledger>(
+    alloc: Global,
+    net: &Net,
+    works: &mut Works,
+    steps: &mut Steps<L>,
+) -> Result<Marks, Memory>
     ensures { IfOk result (λ marks. AreRight net.now.theory net.now.names (places marks) (stands marks)) }
 {
-    let region = everywhere(alloc, net.names())?;
-    let mut marks = begun(alloc, net, &region, steps)?;
-    fill_blocking(alloc, net, &region, &mut marks, steps)?;
-    fill_pair(alloc, net, &region, &mut marks, steps)?;
+    let names = net.names();
+    let region = everywhere(alloc, names)?;
+    let mut marks = no_marks(alloc, names, steps)?;
+    works.reserve(net.rules_len(), names)?;
+    fill_all(net, &region, works, &mut marks, steps);
     Ok(marks)
 }
