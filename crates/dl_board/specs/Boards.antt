@@ -1,0 +1,14 @@
+-- Boards as callers see them.
+use Rattle.std.specs.Prelude.{ℕ, List, []}
+use Rattle.dl_theory.specs.Lists.{TheoryLists}
+use Rattle.dl_calls.specs.declared.entry.Entry.{Entry}
+
+-- the theory that the history begins from, the history, and how many seats are enrolled
+pub record BoardLists : Type 0 where
+  pub start : TheoryLists
+  pub history : List Entry
+  pub enrolled : ℕ
+
+-- no entry and no seat
+abbrev pub opening_board : TheoryLists → BoardLists
+opening_board T = record { start = T; history = []; enrolled = 0 }

@@ -1,0 +1,10 @@
+mod Gaining
+mod Resting
+mod Spread
+mod Gaps
+mod Absent
+mod Running
+mod Certified
+mod Fired
+mod Answered
+mod Wanting

@@ -1,0 +1,12 @@
+use Rattle.std.proofs.Common.{inl, inr}
+use Rattle.dl_net.specs.Numbers.{attackers_row, heads, back, literal_at}
+use Rattle.dl_net.specs.declared.link.Link.TheVariants.{Uses}
+use Rattle.dl_derive.specs.Back.{Is, FromRow, RestsAt}
+use Rattle.dl_derive.proofs.Gaining.{gains_then}
+use Rattle.dl_derive.proofs.back.put_next.Goals as goal
+
+pub returns : goal.returns
+returns c =
+    gains_then (FromRow Is (attackers_row c.args.net.now (literal_at c.args.net.now c.args.number)))
+    (FromRow (λ r. FromRow Is (back c.args.net.now Uses r)) (heads c.args.net.now c.args.number)) (RestsAt c.args.net.now c.args.number)
+    c.args.region.now c.put_attackers.new.region c.put_rules.new.region (λ n x. inl x) (λ n y. inr y) (λ n z. z) c.put_attackers.ensures c.put_rules.ensures

@@ -1,0 +1,6 @@
+pub mod Back
+pub mod Gap
+pub mod Unnumbered
+pub mod Ways
+pub mod Kinds
+pub mod Wanted

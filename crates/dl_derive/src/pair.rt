@@ -1,0 +1,90 @@
+//! Derivations in the families propagating and support.
+
+ghost use Rattle.std.specs.Prelude.{◌≡◌, ◌≤◌, ◌<◌, ◌+◌, ◌*◌, length, IfOk};
+ghost use Rattle.dl_lit.specs.declared.literal.Family.TheVariants as family_is;
+ghost use Rattle.dl_lit.specs.Literal.{tagged};
+ghost use Rattle.dl_theory.specs.Derivations.{Follows};
+ghost use Rattle.dl_theory.specs.Verdicts.{DerivesAt};
+ghost use Rattle.dl_marks.specs.Marks.{places};
+ghost use Rattle.dl_net.specs.Numbers.{literal_at};
+ghost use Rattle.dl_fill.specs.Before.{before_of};
+ghost use Rattle.dl_fill.specs.Filled.{IsRight};
+ghost use Rattle.dl_prop.specs.Propagation.{IsOfPair, propagation_gate, propagation_wires};
+ghost use Rattle.dl_derive.specs.Back.{IsBack};
+ghost use Rattle.dl_derive.specs.Kinds.{node_kind};
+ghost use Rattle.dl_derive.specs.Ways.{IsWay};
+
+use crate::definite::sure_way;
+use crate::kind::node_kind;
+use crate::run::run;
+use crate::steps::behind_sure;
+use crate::way::lead;
+use dl_base::Memory;
+use dl_lit::Family;
+use dl_marks::Marks;
+use dl_net::{Net, Region};
+use dl_prop::{LITERALS, PropGates, WIDTH, bases, tags, wires};
+use dl_theory::TaggedList;
+use std::alloc::Global;
+
+/// The nodes that lead up to that of the literal, the family and the sign.
+fn pair_way(
+    alloc: Global,
+    net: &Net,
+    marks: &Marks,
+    region: &Region,
+    plus: bool,
+    family: Family,
+    number: usize,
+) -> Result<Vec<usize>, Memory>
+    requires pair { IsOfPair family }
+    requires number { number < length net.now.names }
+    requires back { IsBack net.now number region.now }
+    requires room { length net.now.names ≤ places marks.now }
+    requires definite { IsRight net.now marks.now family_is.Definite }
+    requires propagating { IsRight net.now marks.now family_is.Propagating }
+    requires support { IsRight net.now marks.now family_is.Support }
+    requires follows { Follows net.now.theory (tagged plus family (literal_at net.now number)) }
+    ensures { IfOk result (λ nodes. IsWay net.now (before_of marks.now region.now) 14 6 propagation_wires (propagation_gate net.now (before_of marks.now region.now)) (number * 14 + node_kind family plus) nodes.items) }
+{
+    let _names = net.names();
+    let _len = region.len();
+    let wires = wires();
+    let parts = run(
+        alloc, &PropGates, net, marks, region, WIDTH, LITERALS, &wires,
+    )?;
+    let _size = parts.counters.size();
+    let node = number * WIDTH + node_kind(family, plus);
+    let nodes = lead(
+        alloc, &PropGates, net, marks, region, WIDTH, LITERALS, &wires, &parts, node,
+    )?;
+    Ok(nodes)
+}
+
+/// A derivation that ends with the literal, the family and the sign, of what matters.
+pub(crate) fn pair_steps(
+    alloc: Global,
+    net: &Net,
+    marks: &Marks,
+    region: &Region,
+    plus: bool,
+    family: Family,
+    number: usize,
+) -> Result<TaggedList, Memory>
+    requires pair { IsOfPair family }
+    requires number { number < length net.now.names }
+    requires back { IsBack net.now number region.now }
+    requires room { length net.now.names ≤ places marks.now }
+    requires definite { IsRight net.now marks.now family_is.Definite }
+    requires propagating { IsRight net.now marks.now family_is.Propagating }
+    requires support { IsRight net.now marks.now family_is.Support }
+    requires follows { Follows net.now.theory (tagged plus family (literal_at net.now number)) }
+    ensures { IfOk result (DerivesAt net.now.theory family (literal_at net.now number) (tagged plus family (literal_at net.now number))) }
+{
+    let _names = net.names();
+    let nodes = pair_way(alloc, net, marks, region, plus, family, number)?;
+    let bases = bases();
+    let sure = sure_way(alloc, net, marks, region, WIDTH, &bases, &nodes)?;
+    let list = behind_sure(alloc, net, region, &sure, WIDTH, &tags(), &nodes)?;
+    Ok(list)
+}

@@ -1,0 +1,54 @@
+//! Runs over what matters.
+
+ghost use Rattle.std.specs.Prelude.{◌≡◌, ◌≤◌, length, IfOk};
+ghost use Rattle.dl_marks.specs.Marks.{places};
+ghost use Rattle.dl_fill.specs.Before.{before_of};
+ghost use Rattle.dl_fill.specs.Tables.{IsTable};
+ghost use Rattle.dl_derive.specs.Ways.{IsRun};
+
+use dl_base::Memory;
+use dl_fill::{Gates, Parts, Wire, make_parts, solve};
+use dl_marks::Marks;
+use dl_net::{Net, Region};
+use std::alloc::Global;
+
+/// For how many places nodes are made.
+fn places_of(net: &Net) -> usize
+    ensures names { length net.now.names ≤ result }
+    ensures rules { length net.now.theory.rules ≤ result }
+{
+    let rules = net.rules_len();
+    let names = net.names();
+    if rules < names { names } else { rules }
+}
+
+/// Counters that have run over a region. `Memory` where there is none for them.
+pub(crate) fn run<G: Gates>(
+    alloc: Global,
+    gates: &G,
+    net: &Net,
+    marks: &Marks,
+    region: &Region,
+    width: usize,
+    literals: usize,
+    wires: &[Wire],
+) -> Result<Parts, Memory>
+    requires table { IsTable width literals wires.now }
+    requires bound { region.now.bound ≡ length net.now.names }
+    requires room { length net.now.names ≤ places marks.now }
+    ensures { IfOk result (λ parts. IsRun net.now (before_of marks.now region.now) region.now.members width literals wires.now (G.tells gates.now net.now (before_of marks.now region.now)) parts.rules parts.counters) }
+{
+    let mut parts = make_parts(alloc, width, places_of(net))?;
+    solve(
+        gates,
+        net,
+        width,
+        literals,
+        wires,
+        marks,
+        region,
+        &mut parts.rules,
+        &mut parts.counters,
+    );
+    Ok(parts)
+}

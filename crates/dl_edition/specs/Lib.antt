@@ -1,0 +1,4 @@
+pub mod Editions
+pub mod Orders
+pub mod Conclusions
+pub mod KeptEdition

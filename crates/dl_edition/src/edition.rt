@@ -1,0 +1,105 @@
+//! A theory that stays as it is, by numbers.
+
+ghost use Rattle.std.specs.Prelude.{◌≡◌, IfOk, IsTrue};
+ghost use Rattle.dl_io.specs.Outside.{HasCause};
+ghost use Rattle.dl_io.specs.Streams.{WritesAll};
+ghost use Rattle.dl_print.specs.Text.{theory_text};
+ghost use Rattle.dl_marks.specs.Marks.{places, IsFrozen};
+ghost use Rattle.dl_fill.specs.Filled.{stands};
+ghost use Rattle.dl_theory.specs.Marks.{AreRight};
+ghost use Rattle.dl_theory.specs.Verdicts.{IsVerdict, Fits};
+ghost use Rattle.dl_edition.specs.Conclusions.{AreConclusions};
+ghost use Rattle.dl_edition.specs.Editions.{line_count};
+
+use crate::conclusion::{Conclusions, ordered_conclusions};
+use crate::order::order_of;
+use crate::text::write_net;
+use crate::verdict::verdict_of;
+use dl_base::Memory;
+use dl_derive::certify;
+use dl_io::{Failed, Sink};
+use dl_lit::{Family, Literal};
+use dl_marks::Marks;
+use dl_net::Net;
+use dl_theory::{Answer, Verdict};
+use std::alloc::Global;
+use std::marker::Model;
+
+/// A frozen net, marks that are right for it, and the order of its literals.
+#[derive(Drop)]
+pub(crate) struct Edition {
+    net: Net,
+    marks: Marks,
+    /// The numbers of the literals that the theory mentions, in the order of the literals. It is made once, so that no list
+    /// of conclusions sorts.
+    order: Vec<usize>,
+}
+
+impl Model for Edition {
+    ghost use Rattle.dl_theory.specs.Lists.{TheoryLists};
+
+    ghost Value = { TheoryLists };
+
+    ghost use Rattle.dl_edition.specs.KeptEdition.{theory_of, IsKeptEdition};
+
+    ghost view = { theory_of };
+
+    ghost invariant = { IsKeptEdition };
+}
+
+impl Edition {
+    pub(crate) fn make(alloc: Global, net: Net, marks: Marks) -> Result<Edition, Memory>
+        requires frozen { IsTrue net.frozen }
+        requires right { AreRight net.theory net.names (places marks) (stands marks) }
+        requires unowned { IsFrozen marks }
+        ensures { IfOk result (λ edition. edition ≡ net.theory) }
+    {
+        let order = order_of(alloc, &net)?;
+        Ok(Edition { net, marks, order })
+    }
+
+    pub(crate) fn verdict(&self, family: Family, literal: &Literal) -> Verdict
+        ensures { IsVerdict self.now family literal.now result }
+    {
+        verdict_of(&self.net, &self.marks, family, literal)
+    }
+
+    pub(crate) fn ask(&self, family: Family, literal: &Literal) -> Result<Answer, Memory>
+        ensures { IfOk result (Fits self.now family literal.now) }
+    {
+        certify(
+            *self.order.allocator(),
+            &self.net,
+            &self.marks,
+            family,
+            literal,
+        )
+    }
+
+    pub(crate) fn lines(&self) -> usize
+        ensures { result ≡ line_count self.now }
+    {
+        let _names = self.net.names();
+        self.net.facts_len() + self.net.rules_len() + self.net.pairs_len()
+    }
+
+    pub(crate) fn write_text<S: Sink>(&self, sink: &mut S) -> Result<(), Failed>
+        ensures bytes { WritesAll (S.written sink.old) (S.written sink.new) result (theory_text self.now) }
+        ensures cause { HasCause (S.faults sink.old) (S.faults sink.new) result }
+        ensures name { S.name sink.new ≡ S.name sink.old }
+    {
+        write_net(sink, &self.net)
+    }
+
+    pub(crate) fn conclusions(&self, family: Family) -> Result<Conclusions, Memory>
+        ensures { IfOk result (AreConclusions self.now family) }
+    {
+        ordered_conclusions(
+            *self.order.allocator(),
+            &self.net,
+            &self.marks,
+            family,
+            self.order.as_slice(),
+        )
+    }
+}
