@@ -1,5 +1,4 @@
 pub mod Known
-pub mod Verdicts
 pub mod Loading
 pub mod Replies
 pub mod Judging

@@ -24,6 +24,6 @@ reply_status (reply.Checked (checked.Rejected line)) = status.Rejected
 abbrev pub reply_text : Reply → List ℕ
 reply_text reply.Usage = usage_line
 reply_text (reply.Refused x) = refused_line x
-reply_text (reply.Conclusions f cs) = conclusions_text f cs.items
+reply_text (reply.Conclusions f cs) = conclusions_text f cs
 reply_text (reply.Text T) = theory_text T
 reply_text (reply.Checked x) = checked_line x

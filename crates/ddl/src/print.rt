@@ -10,9 +10,9 @@ ghost use Rattle.ddl.specs.Conclusions.{conclusion_line, conclusions_text};
 ghost use Rattle.ddl.specs.Replies.{usage_line, reply_text};
 
 use crate::check::Checked;
-use crate::conclusion::Conclusion;
 use crate::refusal::Refusal;
 use crate::reply::Reply;
+use dl_edition::Conclusion;
 use dl_io::{Failed, Sink, write_all};
 use dl_lit::Family;
 use dl_print::{write_conclusion, write_number, write_refusal, write_theory};
@@ -125,7 +125,11 @@ fn write_reply<S: Sink>(sink: &mut S, reply: &Reply) -> Result<(), Failed>
     match reply {
         Reply::Usage => write_all(sink, USAGE),
         Reply::Refused(refusal) => write_refused(sink, refusal),
-        Reply::Conclusions(family, conclusions) => write_conclusions(sink, *family, conclusions),
+        Reply::Conclusions(family, conclusions) => write_conclusions(
+            sink,
+            *family,
+            conclusions.as_slice(),
+        ),
         Reply::Text(theory) => write_theory(sink, theory),
         Reply::Checked(checked) => write_checked(sink, *checked),
     }

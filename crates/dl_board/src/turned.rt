@@ -8,6 +8,7 @@ use dl_calls::Reply;
 use dl_edition::Held;
 use dl_theory::EditRefusal;
 
+/// What a board answers to a call of an enrolled seat.
 #[derive(Drop)]
 pub enum Turned {
     /// The edit was made.

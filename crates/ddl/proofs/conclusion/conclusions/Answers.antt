@@ -1,9 +1,9 @@
 use Rattle.std.proofs.Common.{IfOk, subst}
 use Rattle.dl_theory.specs.Lists.{TheoryLists}
-use Rattle.ddl.specs.Conclusions.{AreConclusions}
+use Rattle.dl_edition.specs.Conclusions.{AreConclusions}
 use Rattle.ddl.proofs.conclusion.conclusions.Goals as goal
 
 pub returns : goal.returns
 returns c =
-    subst (λ (T : TheoryLists). IfOk c.conclusions_of.result (λ list. AreConclusions T c.args.family list.items)) c.in_ok-net.ensures.theory
-    c.conclusions_of.ensures
+    subst (λ (T : TheoryLists). IfOk c.filled_conclusions.result (AreConclusions T c.args.family)) c.in_ok-net.ensures.theory
+    c.filled_conclusions.ensures

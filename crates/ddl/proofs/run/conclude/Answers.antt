@@ -7,7 +7,7 @@ use Rattle.ddl.proofs.run.conclude.Goals as goal
 
 pub returns-in_ok-list-in-Theory-clause-shown : goal.returns-in_ok-list-in-Theory-clause-shown
 returns-in_ok-list-in-Theory-clause-shown c = λ holds file gives.
-    concluded c.args.family file gives.0 c.in-Theory.theory c.in_ok-list-in-Theory.list.items gives.1
+    concluded c.args.family file gives.0 c.in-Theory.theory c.in_ok-list-in-Theory.list gives.1
     (subst (λ (x : Loaded). IsLoaded gives.0 x) c.in-Theory.is gives.2) c.in_ok-list-in-Theory.ensures
 
 pub returns-in-Refused-clause-shown : goal.returns-in-Refused-clause-shown
