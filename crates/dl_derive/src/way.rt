@@ -15,17 +15,6 @@ use dl_marks::Marks;
 use dl_net::{Net, Region};
 use std::alloc::Global;
 
-/// All nodes of the queue.
-fn whole(alloc: Global, counters: &Counters) -> Result<Vec<usize>, Memory>
-    ensures { IfOk result (λ nodes. nodes.items ≡ counters.now.queue) }
-{
-    let mut nodes = Vec::new(alloc);
-    for place in 0..counters.len() {
-        nodes.push(counters.at(place))?;
-    }
-    Ok(nodes)
-}
-
 /// One node is wanted.
 fn only(alloc: Global, size: usize, node: usize) -> Result<Vec<bool>, Memory>
     requires { node < size }
@@ -37,20 +26,28 @@ fn only(alloc: Global, size: usize, node: usize) -> Result<Vec<bool>, Memory>
     Ok(wanted)
 }
 
+/// The nodes behind one of them go.
+fn cut_behind(nodes: &mut Vec<usize>, node: usize)
+    requires { 0 < times node nodes.old.items }
+    ensures { IsFrontTo nodes.old.items node nodes.new.items }
+{
+    for place in 0..nodes.len() {
+        if nodes[place] == node {
+            nodes.truncate(place + 1);
+            return;
+        }
+    }
+    unreachable!()
+}
+
 /// The nodes of the queue up to one of them.
 fn front(alloc: Global, counters: &Counters, node: usize) -> Result<Vec<usize>, Memory>
     requires { 0 < times node counters.now.queue }
     ensures { IfOk result (λ nodes. IsFrontTo counters.now.queue node nodes.items) }
 {
-    let mut nodes = Vec::new(alloc);
-    for place in 0..counters.len() {
-        let next = counters.at(place);
-        nodes.push(next)?;
-        if next == node {
-            return Ok(nodes);
-        }
-    }
-    unreachable!()
+    let mut nodes = counters.nodes(alloc)?;
+    cut_behind(&mut nodes, node);
+    Ok(nodes)
 }
 
 /// The nodes on which a node that has fired rests, in order, and that node last. `Memory` where there is none for them.
@@ -105,7 +102,7 @@ pub(crate) fn rest<G: Gates>(
     ensures has { IfOk result (λ kept. (x : ℕ) → 0 < times x parts.now.counters.queue → IsWanted wanted.now x → 0 < times x kept.items) }
 {
     let _names = net.names();
-    let all = whole(alloc, &parts.counters)?;
+    let all = parts.counters.nodes(alloc)?;
     let kept = prune(alloc, gates, net, width, wires, marks, region, &all, wanted)?;
     Ok(kept)
 }

@@ -1,4 +1,6 @@
+pub mod Packed
 pub mod Times
+pub mod Trails
 pub mod Kept
 pub mod Engine
 pub mod Rows

@@ -1,5 +1,5 @@
 -- A whole run: room for what the region touches, and what is left of the counters.
-use Rattle.std.proofs.Common.{◌≡◌, ℕ, zero, suc, ◌+◌, ◌-◌, ◌*◌, ◌/◌, ◌%◌, ◌<◌, ◌≤◌, ◌==◌, Bool, cond, List, [], ◌∷◌, ◌++◌, length, replicate, get_or, set, take, inl, inr, sym, subst, ap, refl, ◌∙◌, arith, length-append}
+use Rattle.std.proofs.Common.{◌≡◌, ℕ, zero, suc, ◌+◌, ◌-◌, ◌*◌, ◌/◌, ◌%◌, ◌<◌, ◌≤◌, ◌==◌, Bool, cond, List, [], ◌∷◌, ◌++◌, length, replicate, get_or, set, inl, inr, sym, subst, ap, refl, ◌∙◌, arith, length-append}
 use Rattle.std.specs.Prelude.{nat_lt, All, Contains}
 use Rattle.std.specs.List.{fold}
 use Rattle.std.proofs.lemmas.Bool.{cases_eq, cases_lt}
@@ -25,11 +25,6 @@ use Rattle.dl_fill.proofs.Times.{times-append, times-get_or}
 use Rattle.dl_fill.proofs.Nodes.{node_parts, node_inside}
 use Rattle.dl_fill.proofs.Written.{times_contains}
 use Rattle.dl_fill.proofs.Starting.{begins_join, length-places, rows_fit, in_places, lits_apart, touched_cases, touched_begun}
-
--- members of the front of a list
-pub all_within : (front items : List ℕ) (len n : ℕ) → front ≡ items → ((y : ℕ) → 0 < times y (take len items) → y < n) → All (λ y. y < n) (take len front)
-all_within front items len n e h =
-    subst (λ (xs : List ℕ). All (λ y. y < n) (take len xs)) (sym e) (λ k d lt. h (get_or (take len items) k d) (times-get_or (take len items) k d lt))
 
 -- distinct numbers below a bound are no more than the bound
 abbrev under : ℕ → List ℕ

@@ -1,6 +1,6 @@
 -- Nodes begin, one after another.
-use Rattle.std.proofs.Common.{◌≡◌, ℕ, zero, suc, ◌+◌, ◌-◌, ◌*◌, ◌/◌, ◌%◌, ◌<◌, ◌≤◌, Bool, true, false, cond, List, [], ◌∷◌, ◌++◌, length, get_or, set, take, inl, inr, ◌⊎◌, sym, subst, ap, refl, ◌∙◌, arith, length-append, length-set, true≢false}
-use Rattle.std.specs.Prelude.{nat_lt, slice_get, if◌then◌else◌}
+use Rattle.std.proofs.Common.{◌≡◌, ℕ, zero, suc, ◌+◌, ◌-◌, ◌*◌, ◌/◌, ◌%◌, ◌<◌, ◌≤◌, ◌^◌, Bool, true, false, cond, List, [], ◌∷◌, ◌++◌, length, get_or, set, take, inl, inr, ◌⊎◌, sym, subst, ap, refl, ◌∙◌, arith, length-append, length-set, true≢false}
+use Rattle.std.specs.Prelude.{nat_lt, slice_get}
 use Rattle.std.proofs.Common.{Some}
 use Rattle.std.proofs.lemmas.Bool.{eqb-true}
 use Rattle.std.proofs.Math.Nat.{add-mul}
@@ -127,22 +127,24 @@ give_room v w node h g i e f now lt room =
           (omega (arith, more, s, idle, length-set {A = ℕ}))
     ]
 
--- a flag is unset
-pub unset_more : (flags old : List Bool) (places : List ℕ) (i : ℕ) → i < length places → get_or places i 0 < length flags
-    → ((y : ℕ) → get_or flags y false ≡ (if is_inside (take i places) y then false else get_or old y false))
-    → (y : ℕ) → get_or (set flags (get_or places i 0) false) y false ≡ (if is_inside (take (i + 1) places) y then false else get_or old y false)
-unset_more flags old places i lt inside h y =
-    let grown = take_more places i 0 lt in
-    elim (cases_eq y (get_or places i 0)) [
-      | inl is ↦
-          let here : is_inside (take (i + 1) places) y ≡ true =
-          lt-ltb 0 (times y (take (i + 1) places)) (omega (arith, ap (times y) grown, times_push_same y (get_or places i 0) (take i places) is)) in
-          subst (λ (z : ℕ). get_or (set flags (get_or places i 0) false) z false ≡ false) (sym is) (get_or-set_same flags (get_or places i 0) false false inside)
-          ∙ sym (ap (λ (b : Bool). if b then false else get_or old y false) here)
-      | inr other ↦
-          get_or-set_other flags (get_or places i 0) y false false other ∙ h y
-          ∙ ap (λ (n : ℕ). if nat_lt 0 n then false else get_or old y false) (sym (ap (times y) grown ∙ times_push_other y (get_or places i 0) (take i places) other))
+pub give_idle : (v w : CounterLists) (node h : ℕ) (g : Gate) (i : ℕ) → w ≡ record { need = set v.need node h; queue = v.queue } → h ≡ hits_of g i → now_of g i ≡ true
+    → node < length v.need → get_or w.need node 0 ≡ 0
+give_idle v w node h g i e f now lt =
+    ap (λ (x : CounterLists). get_or x.need node 0) e ∙ get_or-set_same v.need node h 0 lt ∙ f ∙ (now_zero g i now).0
+
+pub give_fresh : (v w : CounterLists) (node h : ℕ) (g : Gate) (i : ℕ) → w ≡ record { need = set v.need node h; queue = v.queue } → now_of g i ≡ true
+    → (g ≡ Never) ⊎ (times node v.queue ≡ 0) → times node w.queue ≡ 0
+give_fresh v w node h g i e now fresh =
+    elim fresh [
+      | inl never ↦ absurd ((now_zero g i now).1 never)
+      | inr none ↦ ap (λ (x : CounterLists). times node x.queue) e ∙ none
     ]
+
+pub hits_few : (g : Gate) (i : ℕ) → i < 2 ^ 39 → hits_of g i < 2 ^ 39
+hits_few Every i h = h
+hits_few Either i h = omega arith
+hits_few Now i h = omega arith
+hits_few Never i h = omega arith
 
 -- the nodes of kinds at places
 module _ (s from : ℕ) where
@@ -208,6 +210,38 @@ module _ (s from : ℕ) where
       ∙ flat_map-append (nodes_at s from n) (take k xs) (get_or xs k x ∷ [])
       ∙ ap (λ (z : ℕ). all_nodes s from n (take k xs) ++ all_nodes s from n (z ∷ [])) e
       ∙ ap (λ (zs : List ℕ). all_nodes s from n (take k xs) ++ zs) (flat_map-cons (nodes_at s from n) x [] ∙ append-nil (nodes_at s from n x))
+
+  pub nodes_has : (n i k : ℕ) → k < n → 0 < times (i * s + (from + k)) (nodes_at s from n i)
+  nodes_has zero i k lt = absurd (omega arith)
+  nodes_has (suc n) i k lt = elim (cases_eq k n) [
+    | inl is ↦
+        let at : i * s + (from + k) ≡ i * s + (from + n) = omega (arith, is) in
+        omega (arith, times_push_same (i * s + (from + k)) (i * s + (from + n)) (nodes_at s from n i) at)
+    | inr other ↦
+        omega (
+          arith,
+          nodes_has n i k (omega (arith, other)),
+          times-append (i * s + (from + k)) (nodes_at s from n i) ((i * s + (from + n)) ∷ []),
+        )
+  ]
+
+  pub all_has : (n : ℕ) (xs : List ℕ) (k x y : ℕ) → k < length xs → get_or xs k x ≡ x → 0 < times y (nodes_at s from n x) → 0 < times y (all_nodes s from n xs)
+  all_has n [] k x y lt e h = absurd (omega arith)
+  all_has n (z ∷ xs) zero x y lt e h =
+      omega (
+        arith,
+        h,
+        ap (λ (v : ℕ). times y (nodes_at s from n v)) e,
+        ap (times y) (flat_map-cons (nodes_at s from n) z xs),
+        times-append y (nodes_at s from n z) (all_nodes s from n xs),
+      )
+  all_has n (z ∷ xs) (suc k) x y lt e h =
+      omega (
+        arith,
+        all_has n xs k x y (omega arith) e h,
+        ap (times y) (flat_map-cons (nodes_at s from n) z xs),
+        times-append y (nodes_at s from n z) (all_nodes s from n xs),
+      )
 
   pub node_fresh : (k i y : ℕ) → from + k < s → 0 < times y ((i * s + (from + k)) ∷ []) → times y (nodes_at s from k i) ≡ 0
   node_fresh k i y small h = elim (cases_eq (times y (nodes_at s from k i)) 0) [

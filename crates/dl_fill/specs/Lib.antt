@@ -1,4 +1,5 @@
 pub mod Counting
+pub mod Cells
 pub mod Counters
 pub mod Wires
 pub mod Gates

@@ -1,32 +1,36 @@
 //! Counters and the queue.
 
-ghost use Rattle.std.specs.Prelude.{◌≡◌, ◌<◌, ◌≤◌, ◌+◌, ◌∷◌, ◌++◌, [], length, slice_index, slice_set, OnOk, OnErr, replicate, ◌↔◌, ◌⊎◌, ℕ, Bool, false, slice_index_or, All, IsTrue, if◌then◌else◌};
+ghost use Rattle.std.specs.Prelude.{◌≡◌, ◌<◌, ◌≤◌, ◌+◌, ◌-◌, ◌^◌, ◌==◌, ◌∷◌, ◌++◌, [], length, slice_index, slice_set, IfOk, OnOk, OnErr, replicate, ◌↔◌, ◌⊎◌, ℕ, Bool, false, slice_index_or, IsTrue, if◌then◌else◌};
 ghost use Rattle.dl_net.specs.Counting.{times};
-ghost use Rattle.dl_fill.specs.Counters.{hit, waiting};
-ghost use Rattle.dl_fill.specs.Before.{is_inside};
+ghost use Rattle.dl_fill.specs.Counters.{hit, waiting, needs, trail, IsTrail};
 
+use crate::cells::Cells;
 use dl_base::Memory;
 use std::alloc::Global;
 use std::marker::Model;
 
-/// How many hits each node still waits for, and the nodes that wait no more, in order.
+/// No more nodes than a cell tells apart.
+const MOST_NODES: usize = 0x80_0000_0000;
+
+/// How many hits each node still waits for, and the nodes that wait no more, in order. A node takes five bytes.
 #[derive(Drop)]
 pub struct Counters {
-    need: Vec<usize>,
-    places: Vec<usize>,
+    /// By node, whether it stands in the queue, and how many hits it still waits for; once it stands in the queue, the node that
+    /// stands there next.
+    cells: Cells,
+    first: usize,
+    last: usize,
     len: usize,
-    fired: Vec<bool>,
 }
 
 impl Model for Counters {
-    ghost use Rattle.std.specs.Prelude.{take};
-    ghost use Rattle.dl_fill.specs.Counters.{CounterLists, IsKept};
+    ghost use Rattle.dl_fill.specs.Counters.{CounterLists, IsKept, needs, trail};
 
     ghost Value = { CounterLists };
 
-    ghost view = { λ w. record { need = w.need.items; queue = take w.len w.places.items } };
+    ghost view = { λ w. record { need = needs w.cells.flags w.cells.numbers; queue = trail w.len w.first w.cells.numbers } };
 
-    ghost invariant = { λ w. IsKept w.need.items w.places.items w.len w.fired.items };
+    ghost invariant = { λ w. IsKept w.cells.flags w.cells.numbers w.first w.last w.len };
 }
 
 impl Counters {
@@ -36,28 +40,29 @@ impl Counters {
         ensures queue { result.queue ≡ [] }
     {
         Counters {
-            need: Vec::new(alloc),
-            places: Vec::new(alloc),
+            cells: Cells::make(alloc),
+            first: 0,
+            last: 0,
             len: 0,
-            fired: Vec::new(alloc),
         }
     }
 
-    /// Room for `size` nodes, none of which waits. `Memory` leaves the counters as they were.
+    /// Room for `size` nodes, none of which waits. `Memory` leaves the counters as they were; it comes too where the nodes
+    /// are more than numbers of 39 bits tell.
     pub fn renew(&mut self, size: usize) -> Result<(), Memory>
         ensures need { OnOk result (self.new.need ≡ replicate size 0) }
         ensures queue { OnOk result (self.new.queue ≡ []) }
         ensures kept { OnErr result (self.new ≡ self.old) }
     {
-        let alloc = *self.need.allocator();
-        let need = vec![in alloc; 0; size]?;
-        let places = vec![in alloc; 0; size]?;
-        let fired = vec![in alloc; false; size]?;
+        if size > MOST_NODES {
+            return Err(Memory);
+        }
+        let cells = Cells::of_len(self.cells.alloc(), size)?;
         *self = Counters {
-            need,
-            places,
+            cells,
+            first: 0,
+            last: 0,
             len: 0,
-            fired,
         };
         Ok(())
     }
@@ -67,7 +72,7 @@ impl Counters {
         ensures size { result ≡ length self.now.need }
         ensures few { length self.now.queue + waiting self.now.need ≤ length self.now.need }
     {
-        self.need.len()
+        self.cells.len()
     }
 
     /// How many nodes wait no more.
@@ -78,12 +83,26 @@ impl Counters {
         self.len
     }
 
-    /// The node at that place of the queue.
-    pub fn at(&self, place: usize) -> usize
-        requires { place < length self.now.queue }
-        ensures { result ≡ slice_index self.now.queue place }
+    /// The node that stands first in the queue, where some node does.
+    pub fn first(&self) -> usize
+        ensures { 0 < length self.now.queue → result ≡ slice_index self.now.queue 0 }
     {
-        self.places[place]
+        self.first
+    }
+
+    /// The node that stands in the queue after this one, where some node does.
+    pub fn after(&self, node: usize) -> usize
+        requires { node < length self.now.need }
+        ensures { (i : ℕ) → i + 1 < length self.now.queue → slice_index self.now.queue i ≡ node → result ≡ slice_index self.now.queue (i + 1) }
+    {
+        self.cells.number(node)
+    }
+
+    /// The nodes of the queue, in order. `Memory` where there is none for the list.
+    pub fn nodes(&self, alloc: Global) -> Result<Vec<usize>, Memory>
+        ensures { IfOk result (λ nodes. nodes.items ≡ self.now.queue) }
+    {
+        listed(alloc, &self.cells, self.first, self.len)
     }
 
     /// Nothing stands in the queue any more. It costs no more than the queue is long.
@@ -91,10 +110,7 @@ impl Counters {
         ensures need { self.new.need ≡ self.old.need }
         ensures queue { self.new.queue ≡ [] }
     {
-        unset(
-            self.fired.as_mut_slice(),
-            &self.places.as_slice()[..self.len],
-        );
+        unlink(&mut self.cells, self.first, self.len);
         self.len = 0;
     }
 
@@ -103,15 +119,18 @@ impl Counters {
         requires { node < length self.old.need }
         ensures { self.new ≡ hit self.old node }
     {
-        let left = self.need[node];
-        if left != 0 {
-            self.need[node] = left - 1;
-            if left == 1 {
-                self.places[self.len] = node;
-                self.len += 1;
-                self.fired[node] = true;
-            }
+        if self.cells.flag(node) {
+            return;
         }
+        let left = self.cells.number(node);
+        if left == 0 {
+            return;
+        }
+        if left == 1 {
+            self.append(node);
+            return;
+        }
+        self.cells.put(node, left - 1);
     }
 
     /// Whether the node stands in the queue.
@@ -119,37 +138,92 @@ impl Counters {
         requires { node < length self.now.need }
         ensures { IsTrue result ↔ (0 < times node self.now.queue) }
     {
-        self.fired[node]
+        self.cells.flag(node)
     }
 
     /// The node waits for that many hits.
     pub fn wait(&mut self, node: usize, hits: usize)
         requires node { node < length self.old.need }
+        requires few { hits < 2 ^ 39 }
+        requires fresh { (hits ≡ 0) ⊎ (times node self.old.queue ≡ 0) }
         requires room { (hits ≡ 0) ⊎ (length self.old.queue + waiting self.old.need < length self.old.need) }
         ensures { self.new ≡ record { need = slice_set self.old.need node hits; queue = self.old.queue } }
     {
-        self.need[node] = hits;
+        if !self.cells.flag(node) {
+            self.cells.put(node, hits);
+        }
     }
 
-    /// The node goes into the queue at once.
+    /// The node, which waits for nothing, goes into the queue at once.
     pub fn give(&mut self, node: usize)
         requires node { node < length self.old.need }
+        requires idle { slice_index self.old.need node ≡ 0 }
+        requires fresh { times node self.old.queue ≡ 0 }
         requires room { length self.old.queue + waiting self.old.need < length self.old.need }
         ensures { self.new ≡ record { need = self.old.need; queue = self.old.queue ++ node ∷ [] } }
     {
-        self.places[self.len] = node;
+        self.append(node);
+    }
+
+    /// The node goes last into the queue, and waits no more.
+    fn append(&mut self, node: usize)
+        requires node { node < length self.old.need }
+        requires fresh { times node self.old.queue ≡ 0 }
+        requires room { length self.old.queue + waiting (slice_set self.old.need node 0) < length self.old.need }
+        ensures { self.new ≡ record { need = slice_set self.old.need node 0; queue = self.old.queue ++ node ∷ [] } }
+    {
+        self.first = link(&mut self.cells, self.first, self.last, self.len, node);
+        self.last = node;
         self.len += 1;
-        self.fired[node] = true;
+        self.cells.mark(node, true);
     }
 }
 
-/// Sets the flags at these places to false.
-fn unset(flags: &mut [bool], places: &[usize])
-    requires { All (λ n. n < length flags.old) places.now }
-    ensures len { length flags.new ≡ length flags.old }
-    ensures unset { (y : ℕ) → slice_index_or flags.new y false ≡ (if is_inside places.now y then false else slice_index_or flags.old y false) }
+/// The last of so many nodes tells the node after it; the answer is the first of all.
+fn link(cells: &mut Cells, first: usize, last: usize, len: usize, node: usize) -> usize
+    requires last { (len ≡ 0) ⊎ (last < length cells.old.flags) }
+    requires node { node < 2 ^ 39 }
+    ensures flags { cells.new.flags ≡ cells.old.flags }
+    ensures numbers { cells.new.numbers ≡ (if len == 0 then cells.old.numbers else slice_set cells.old.numbers last node) }
+    ensures first { result ≡ (if len == 0 then node else first) }
 {
-    for place in places {
-        flags[*place] = false;
+    if len == 0 {
+        return node;
+    }
+    cells.put(last, node);
+    first
+}
+
+/// The nodes of a trail, in order.
+fn listed(alloc: Global, cells: &Cells, first: usize, len: usize) -> Result<Vec<usize>, Memory>
+    requires { (y : ℕ) → 0 < times y (trail len first cells.now.numbers) → y < length cells.now.flags }
+    ensures { IfOk result (λ nodes. nodes.items ≡ trail len first cells.now.numbers) }
+{
+    let mut nodes = Vec::new(alloc);
+    let mut node = first;
+    let mut left = len;
+    while left > 0 {
+        nodes.push(node)?;
+        node = cells.number(node);
+        left -= 1;
+    }
+    Ok(nodes)
+}
+
+/// The nodes of a trail have fired no more, and their numbers tell nothing.
+fn unlink(cells: &mut Cells, first: usize, len: usize)
+    requires { IsTrail cells.old.flags cells.old.numbers first len }
+    ensures needs { needs cells.new.flags cells.new.numbers ≡ needs cells.old.flags cells.old.numbers }
+    ensures trail { IsTrail cells.new.flags cells.new.numbers first 0 }
+    ensures size { length cells.new.flags ≡ length cells.old.flags }
+{
+    let mut node = first;
+    let mut left = len;
+    while left > 0 {
+        let next = cells.number(node);
+        cells.mark(node, false);
+        cells.put(node, 0);
+        node = next;
+        left -= 1;
     }
 }

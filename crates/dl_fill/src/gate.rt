@@ -1,6 +1,7 @@
 //! What each node waits for.
 
 ghost use Rattle.std.specs.Prelude.{◌≡◌, ◌⊎◌, ◌<◌, ◌≤◌, ◌+◌, ◌^◌, length, filter};
+ghost use Rattle.dl_net.specs.Counting.{times};
 ghost use Rattle.dl_net.specs.Numbers.{back};
 ghost use Rattle.dl_net.specs.declared.link.Link.TheVariants as link_kind;
 ghost use Rattle.dl_fill.specs.declared.wire.Gate.TheVariants.{Never};
@@ -57,7 +58,7 @@ fn inner_len(net: &Net, region: &Region, link: Link, place: usize) -> usize
 }
 
 /// How many inputs a node has.
-pub fn inputs_len(
+fn inputs_len(
     net: &Net,
     region: &Region,
     width: usize,
@@ -67,7 +68,8 @@ pub fn inputs_len(
 ) -> usize
     requires wires { length wires.now ≤ 32 }
     requires bound { region.now.bound ≡ length net.now.names }
-    ensures { result ≡ length (inputs_at net.now (is_inside region.now.members) width wires.now kind place) }
+    ensures len { result ≡ length (inputs_at net.now (is_inside region.now.members) width wires.now kind place) }
+    ensures few { result < 2 ^ 39 }
 {
     let mut len = 0;
     for w in wires {
@@ -76,6 +78,30 @@ pub fn inputs_len(
         }
     }
     len
+}
+
+/// How many inputs a node has, where its gate asks for them.
+pub fn inputs_asked(
+    net: &Net,
+    region: &Region,
+    width: usize,
+    wires: &[Wire],
+    gate: Gate,
+    kind: usize,
+    place: usize,
+) -> usize
+    requires wires { length wires.now ≤ 32 }
+    requires bound { region.now.bound ≡ length net.now.names }
+    ensures hits { hits_of gate result ≡ hits_of gate (length (inputs_at net.now (is_inside region.now.members) width wires.now kind place)) }
+    ensures now { now_of gate result ≡ now_of gate (length (inputs_at net.now (is_inside region.now.members) width wires.now kind place)) }
+    ensures few { result < 2 ^ 39 }
+{
+    match gate {
+        Gate::Every => inputs_len(net, region, width, wires, kind, place),
+        Gate::Either => 0,
+        Gate::Now => 0,
+        Gate::Never => 0,
+    }
 }
 
 fn hits(gate: Gate, inputs: usize) -> usize
@@ -103,6 +129,8 @@ fn fires_now(gate: Gate, inputs: usize) -> bool
 /// The node begins to wait, or goes into the queue.
 pub fn begin(counters: &mut Counters, node: usize, gate: Gate, inputs: usize)
     requires node { node < length counters.old.need }
+    requires few { inputs < 2 ^ 39 }
+    requires fresh { (gate ≡ Never) ⊎ (times node counters.old.queue ≡ 0) }
     requires room { (gate ≡ Never) ⊎ (length counters.old.queue + waiting counters.old.need < length counters.old.need) }
     ensures { counters.new ≡ begun counters.old node (hits_of gate inputs) (now_of gate inputs) }
 {

@@ -45,6 +45,7 @@
 mod attack;
 mod backward;
 mod basis;
+mod cells;
 mod counters;
 mod gate;
 mod needs;
@@ -62,7 +63,7 @@ pub use attack::{
 pub use backward::prune;
 pub use basis::Basis;
 pub use counters::Counters;
-pub use gate::{begin, inputs_len};
+pub use gate::{begin, inputs_asked};
 pub use needs::{Need, Needs};
 pub use parts::{Parts, make_parts, no_parts};
 pub use queue::run;

@@ -45,9 +45,10 @@ pub fn run(net: &Net, width: usize, wires: &[Wire], counters: &mut Counters)
     ensures { IsRunOut (edges net.now width wires.now) counters.old counters.new }
 {
     let mut head = 0;
+    let mut node = counters.first();
     while head < counters.len() {
-        let node = counters.at(head);
         fire(net, width, wires, node, counters);
         head += 1;
+        node = counters.after(node);
     }
 }

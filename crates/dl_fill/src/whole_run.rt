@@ -13,7 +13,7 @@ ghost use Rattle.dl_fill.specs.Prepared.{IsClean, Begins, nodes_at, all_nodes};
 ghost use Rattle.dl_fill.specs.Runs.{HasRun};
 
 use crate::counters::Counters;
-use crate::gate::{begin, inputs_len};
+use crate::gate::{begin, inputs_asked};
 use crate::queue::run;
 use crate::touch::touch;
 use crate::wire::{Gate, Wire};
@@ -68,13 +68,14 @@ fn begin_place<G: Gates>(
     requires room { length net.now.names ≤ places marks.now }
     requires nodes { place * width + width ≤ length counters.old.need }
     requires free { ((k i : ℕ) → G.tells gates.now net.now (before_of marks.now region.now) k i ≡ Never) ⊎ (length counters.old.queue + waiting counters.old.need + count ≤ length counters.old.need) }
+    requires fresh { ((k i : ℕ) → G.tells gates.now net.now (before_of marks.now region.now) k i ≡ Never) ⊎ ((y : ℕ) → 0 < times y (nodes_at width from count place) → times y counters.old.queue ≡ 0) }
     ensures { Begins (inputs net.now (is_inside region.now.members) width wires.now) (λ y. G.tells gates.now net.now (before_of marks.now region.now) (y % width) (y / width)) (nodes_at width from count place) counters.old counters.new }
 {
     let _size = counters.size();
     for k in 0..count {
         let kind = from + k;
         let gate = gates.gate(net, marks, region, kind, place);
-        let inputs = inputs_len(net, region, width, wires, kind, place);
+        let inputs = inputs_asked(net, region, width, wires, gate, kind, place);
         begin(counters, place * width + kind, gate, inputs);
     }
 }
@@ -98,6 +99,7 @@ fn begin_places<G: Gates>(
     requires room { length net.now.names ≤ places marks.now }
     requires nodes { All (λ i. i * width + width ≤ length counters.old.need) all.now.members }
     requires free { ((k i : ℕ) → G.tells gates.now net.now (before_of marks.now region.now) k i ≡ Never) ⊎ (length counters.old.queue + waiting counters.old.need + length all.now.members * count ≤ length counters.old.need) }
+    requires fresh { ((k i : ℕ) → G.tells gates.now net.now (before_of marks.now region.now) k i ≡ Never) ⊎ ((y : ℕ) → 0 < times y (all_nodes width from count all.now.members) → times y counters.old.queue ≡ 0) }
     ensures { Begins (inputs net.now (is_inside region.now.members) width wires.now) (λ y. G.tells gates.now net.now (before_of marks.now region.now) (y % width) (y / width)) (all_nodes width from count all.now.members) counters.old counters.new }
 {
     let _len = all.len();

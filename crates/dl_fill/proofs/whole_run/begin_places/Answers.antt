@@ -2,7 +2,7 @@ use Rattle.std.proofs.Common.{ℕ, ◌/◌, ◌%◌, List, inl, inr, length, tak
 use Rattle.dl_fill.specs.Before.{before_of, is_inside}
 use Rattle.dl_fill.specs.Wires.{inputs}
 use Rattle.dl_fill.specs.Prepared.{Begins, nodes_at, all_nodes}
-use Rattle.dl_fill.proofs.Starting.{begins_join, length-all, rows_fit, places_more, place_fresh}
+use Rattle.dl_fill.proofs.Starting.{begins_join, length-all, rows_fit, places_more, place_fresh, all_has}
 use Rattle.dl_fill.proofs.Touching.{within_at, all_at}
 use Rattle.std.proofs.lemmas.Option.{get_or_from_slice_get}
 use Rattle.dl_fill.proofs.whole_run.begin_places.Goals as goal
@@ -21,6 +21,19 @@ begin_place-requires-clause-free g c =
             length-all c.args.width c.args.from c.args.count c.args.all.now.members c.loop-at.at c.loop-at.invariant.within,
             rows_fit c.loop-at.at (length c.args.all.now.members) c.args.count lt,
           ))
+    ]
+
+pub begin_place-requires-clause-fresh : goal.begin_place-requires-clause-fresh
+begin_place-requires-clause-fresh g c =
+    let lt = within_at c.args.all.now.members c.loop-at.at c.in-Some.place (sym c.at.ensures.member ∙ c.in-Some.is) in
+    elim c.requires.fresh [
+      | inl never ↦ inl never
+      | inr fresh ↦ inr (λ y h.
+          c.loop-at.invariant.begins.queue_out y
+          (place_fresh c.args.width c.args.from c.args.count c.args.all.now.members c.loop-at.at c.in-Some.place c.requires.kinds c.len-len.ensures.region.distinct
+          (sym c.at.ensures.member ∙ c.in-Some.is) y h)
+          ∙ fresh y (all_has c.args.width c.args.from c.args.count c.args.all.now.members c.loop-at.at c.in-Some.place y lt
+          (get_or_from_slice_get c.args.all.now.members c.loop-at.at c.in-Some.place c.in-Some.place (sym c.at.ensures.member ∙ c.in-Some.is)) h))
     ]
 
 pub overflow_add-at : goal.overflow_add-at

@@ -3,7 +3,8 @@ use Rattle.dl_fill.specs.Before.{before_of, is_inside}
 use Rattle.dl_fill.specs.Wires.{edges, inputs}
 use Rattle.dl_fill.proofs.Inside.{edges_inside}
 use Rattle.dl_fill.proofs.Begun.{fires_size}
-use Rattle.dl_fill.proofs.Starting.{length-places}
+use Rattle.dl_net.specs.Counting.{times}
+use Rattle.dl_fill.proofs.Starting.{length-places, lits_apart}
 use Rattle.dl_fill.proofs.Solving.{region_few, idle_waits, area_fits, all_begun, queue_inside}
 use Rattle.dl_fill.proofs.whole_run.solve.Goals as goal
 
@@ -35,6 +36,18 @@ begin_places-requires-2-clause-free g c =
       length-places c.args.width 0 c.args.literals c.args.region.now.members,
       area_fits (length c.args.region.now.members) (length c.touch.new.rules.members) c.args.rules.now.bound c.args.literals c.args.width few fewer c.requires.width,
     ))
+
+pub begin_places-requires-clause-fresh : goal.begin_places-requires-clause-fresh
+begin_places-requires-clause-fresh g c = inr (λ y h. ap (times y) c.requires.clean.queue)
+
+pub begin_places-requires-2-clause-fresh : goal.begin_places-requires-2-clause-fresh
+begin_places-requires-2-clause-fresh g c =
+    inr (λ y h.
+    c.begin_places.ensures.queue_out y
+    (lits_apart (inputs c.args.net.now (is_inside c.args.region.now.members) c.args.width c.args.wires.now)
+    (g.G.Gates.tells c.args.gates.now c.args.net.now (before_of c.args.marks.now c.args.region.now)) c.args.width c.args.literals c.requires.width
+    c.args.region.now.members c.touch.new.rules.members y h)
+    ∙ ap (times y) c.requires.clean.queue)
 
 pub run-requires-clause-inside : goal.run-requires-clause-inside
 run-requires-clause-inside g c = λ x y lt m.
