@@ -7,9 +7,10 @@ ghost use Rattle.dl_board.specs.Boards.{opening_board};
 
 use crate::opening::opened;
 use dl_base::Memory;
-use dl_calls::{Call, Entry, Reply};
+use dl_calls::{Call, Entry, Reply, seats_are_enrolled};
 use dl_edition::Held;
 use dl_theory::Theory;
+use dl_turn::Chronicle;
 use dl_update::Draft;
 use std::alloc::Global;
 use std::marker::Model;
@@ -37,6 +38,22 @@ impl<L: Ledger> Model for Board<L> {
     ghost view = { λ b. record { start = b.start; history = b.entries.items; enrolled = b.count } };
 
     ghost invariant = { λ b. IsKept (record { start = b.start; history = b.entries.items; enrolled = b.count }) b.draft.theory b.editions.items b.book.total };
+}
+
+/// A turnstile sees what callers see.
+impl<L: Ledger> Chronicle for Board<L> {
+    type Line = Entry;
+
+    ghost start = { λ b. b.start };
+
+    ghost history = { λ b. b.history };
+
+    ghost enrolled = { λ b. b.enrolled };
+
+    fn enrolled(&self) -> u64 {
+        seats_are_enrolled();
+        self.count
+    }
 }
 
 impl<L: Ledger> Board<L> {

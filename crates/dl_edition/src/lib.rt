@@ -2,11 +2,15 @@
 //!
 //! A `Held` shares one edition with all other holders. It has the theory by numbers and marks that are right for it, so a
 //! verdict is read from a mark. It answers alone: no call waits, and no call of another holder changes what it answers.
+//!
+//! An `Office` is what hands editions out: one reasoner for many callers, each with a seat.
 #![tactic(auto)]
 
 mod conclusion;
 mod edition;
 mod held;
+mod hold_answer;
+mod office;
 mod order;
 mod text;
 mod verdict;
@@ -14,3 +18,5 @@ mod verdict;
 pub use conclusion::{Conclusion, Conclusions, conclusions_of};
 pub use dl_base::Memory;
 pub use held::Held;
+pub use hold_answer::HoldAnswer;
+pub use office::Office;
