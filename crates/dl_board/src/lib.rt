@@ -9,6 +9,8 @@
 mod board;
 mod calls;
 mod opening;
+#[cfg(test)]
+mod tests;
 mod turned;
 
 pub use board::Board;
