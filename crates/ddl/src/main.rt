@@ -21,6 +21,8 @@ mod status;
 #[cfg(test)]
 mod tests;
 mod theory_file;
+#[cfg(test)]
+mod trials;
 mod whole;
 mod words;
 

@@ -57,6 +57,7 @@ fn two_seats<L: Ledger>(rt: &impl Abort, alloc: Global, blank: Blank)
     expect_history(rt, alloc, &board, TWO_SEATS);
     expect_first(rt, alloc, &held);
     expect_second(rt, alloc, &edition(rt, &board, 1));
+    drop(board);
 }
 
 /// The edition with the rule that was dropped later, which two hold.
@@ -156,6 +157,7 @@ fn loop_support<L: Ledger>(rt: &impl Abort, alloc: Global, blank: Blank)
     );
     let last = edition(rt, &board, 1);
     expect_gap(rt, alloc, &last, Family::Blocking, "p", LOOP_GAP);
+    drop(board);
 }
 
 #[test]
@@ -202,6 +204,7 @@ fn dropped_pair<L: Ledger>(rt: &impl Abort, alloc: Global, blank: Blank)
         &[(0, Act::DropPair("r3", "r2")), (0, Act::Publish)],
         PENGUIN,
     );
+    drop(board);
 }
 
 #[test]
@@ -258,6 +261,7 @@ fn refusals<L: Ledger>(rt: &impl Abort, alloc: Global, blank: Blank)
     expect_history(rt, alloc, &board, REFUSALS);
     let held = edition(rt, &board, 0);
     expect_text(rt, alloc, &held, 4, ">> p\nr1: => q\nr2: => -q\nr1 > r2\n");
+    drop(board);
 }
 
 #[test]

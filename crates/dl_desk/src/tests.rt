@@ -181,6 +181,7 @@ fn two_threads_publish(rt: HostRuntime) {
     assert!(rt; numbers.len() == 500);
     expect_numbers(&rt, numbers, others);
     expect_board(&rt, &board, 1000, 501, 501);
+    drop(board);
 }
 
 /// 1 where the edit was made or refused.
@@ -333,6 +334,7 @@ fn readers_ask_while_others_edit(rt: HostRuntime) {
     assert!(rt; answered.as_slice() == [200, 200].as_slice());
     assert!(rt; proved.as_slice() == [100, 100].as_slice());
     expect_board(&rt, &board, 1, 204, 201);
+    drop(board);
 }
 
 /// A refused edit, an edition, an edit that is made, and one more edition.
@@ -405,4 +407,5 @@ fn a_seat_gets_its_answers(rt: HostRuntime) {
     let p = fact(&rt, rt.alloc(), "p");
     let board = after_each_call::<Brand, _>(&rt, rt.alloc(), &p, Blank::new(1));
     assert!(rt; board.entries() == 7);
+    drop(board);
 }

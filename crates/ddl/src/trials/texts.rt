@@ -1,0 +1,35 @@
+//! What is read from text.
+
+use dl_lit::{Literal, Tagged};
+use dl_read::{read_edit, read_file, read_literal, read_tagged};
+use dl_theory::{Edit, Theory};
+use std::alloc::Global;
+use std::process::Abort;
+
+pub(crate) fn theory_of(rt: &impl Abort, alloc: Global, text: &str) -> Theory {
+    match read_file(alloc, text.as_bytes()) {
+        Ok(theory) => theory,
+        Err(_) => panic!(rt; "no theory"),
+    }
+}
+
+pub(crate) fn edit_of(rt: &impl Abort, alloc: Global, text: &str) -> Edit {
+    match read_edit(alloc, text.as_bytes()) {
+        Ok(edit) => edit,
+        Err(_) => panic!(rt; "no edit"),
+    }
+}
+
+pub(crate) fn literal_of(rt: &impl Abort, alloc: Global, text: &str) -> Literal {
+    match read_literal(alloc, text.as_bytes()) {
+        Ok(literal) => literal,
+        Err(_) => panic!(rt; "no literal"),
+    }
+}
+
+pub(crate) fn tagged_of(rt: &impl Abort, alloc: Global, text: &str) -> Tagged {
+    match read_tagged(alloc, text.as_bytes()) {
+        Ok(tagged) => tagged,
+        Err(_) => panic!(rt; "no tagged literal"),
+    }
+}
