@@ -1,6 +1,6 @@
 //! Many threads at one desk.
 
-ghost use Rattle.std.specs.Prelude.{◌≡◌, ◌+◌, ◌-◌, ◌<◌, ◌^◌, None, All};
+ghost use Rattle.std.specs.Prelude.{◌≡◌, ◌+◌, ◌-◌, ◌<◌, ◌^◌, [], None, All};
 ghost use Rattle.std.specs.Thread.{IsSync};
 ghost use Rattle.dl_edition.specs.Offices.{MayCall};
 
@@ -28,6 +28,17 @@ fn fact(rt: &impl Abort, alloc: Global, text: &str) -> Literal {
     }
 }
 
+/// A board of the empty theory.
+fn blank_board<L: Ledger>(rt: &impl Abort, alloc: Global, book: Book<L>) -> Board<L>
+    requires { book.total ≡ 0 }
+    ensures { result.history ≡ [] }
+{
+    match Board::make(alloc, &Theory::make(alloc), book) {
+        Ok(board) => board,
+        Err(_) => panic!(rt; "no board"),
+    }
+}
+
 /// A desk for the empty theory, and its first seat.
 fn opened<L: Ledger, R: Wait + Abort>(
     rt: &R,
@@ -37,13 +48,14 @@ fn opened<L: Ledger, R: Wait + Abort>(
     requires { book.total ≡ 0 }
     ensures { (result.1.place ≡ result.0) × (result.1.number ≡ None) × (result.1.out ≡ None) }
 {
-    let Ok(board) = Board::make(alloc, &Theory::make(alloc), book) else {
-        panic!(rt; "no board")
-    };
-    let Ok(made) = Desk::make(rt, alloc, board) else {
-        panic!(rt; "no desk")
-    };
-    made
+    let board = blank_board(rt, alloc, book);
+    match Desk::make(rt, alloc, board) {
+        Ok(made) => made,
+        Err((board, _)) => {
+            drop(board);
+            panic!(rt; "no desk")
+        }
+    }
 }
 
 /// One more seat, which has the next number.
@@ -175,13 +187,26 @@ fn expect_numbers(rt: &impl Abort, mut numbers: Vec<u64>, others: Vec<u64>) {
     }
 }
 
+/// Both threads get 500 numbers, and together each number once.
+fn expect_publications<L: Ledger + Send + Sync, R: Threads + Wait + Abort + Sync>(
+    rt: &R,
+    alloc: Global,
+    blank: Blank,
+)
+    requires name { blank.name ≡ L.name }
+    requires parts { blank.parts ≡ L.parts }
+    requires some { 0 < blank.parts }
+{
+    let (board, numbers, others) = two_publish::<L, R>(rt, alloc, blank);
+    assert!(rt; numbers.len() == 500);
+    expect_numbers(rt, numbers, others);
+    expect_board(rt, &board, 1000, 501, 501);
+    drop(board);
+}
+
 #[test]
 fn two_threads_publish(rt: HostRuntime) {
-    let (board, numbers, others) = two_publish::<Brand, _>(&rt, rt.alloc(), Blank::new(1));
-    assert!(rt; numbers.len() == 500);
-    expect_numbers(&rt, numbers, others);
-    expect_board(&rt, &board, 1000, 501, 501);
-    drop(board);
+    expect_publications::<Brand, _>(&rt, rt.alloc(), Blank::new(1));
 }
 
 /// 1 where the edit was made or refused.
@@ -326,15 +351,27 @@ fn readers_and_editors<L: Ledger + Send + Sync, R: Threads + Wait + Abort + Sync
     (board, answered, proved)
 }
 
-#[test]
-fn readers_ask_while_others_edit(rt: HostRuntime) {
-    let alloc = rt.alloc();
-    let p = fact(&rt, alloc, "p");
-    let (board, answered, proved) = readers_and_editors::<Brand, _>(&rt, alloc, &p, Blank::new(1));
+/// Each edit is answered, and each time that the edition is asked the fact is proved.
+fn expect_answered<L: Ledger + Send + Sync, R: Threads + Wait + Abort + Sync>(
+    rt: &R,
+    alloc: Global,
+    blank: Blank,
+)
+    requires name { blank.name ≡ L.name }
+    requires parts { blank.parts ≡ L.parts }
+    requires some { 0 < blank.parts }
+{
+    let p = fact(rt, alloc, "p");
+    let (board, answered, proved) = readers_and_editors::<L, R>(rt, alloc, &p, blank);
     assert!(rt; answered.as_slice() == [200, 200].as_slice());
     assert!(rt; proved.as_slice() == [100, 100].as_slice());
-    expect_board(&rt, &board, 1, 204, 201);
+    expect_board(rt, &board, 1, 204, 201);
     drop(board);
+}
+
+#[test]
+fn readers_ask_while_others_edit(rt: HostRuntime) {
+    expect_answered::<Brand, _>(&rt, rt.alloc(), Blank::new(1));
 }
 
 /// A refused edit, an edition, an edit that is made, and one more edition.
@@ -402,10 +439,19 @@ fn after_each_call<L: Ledger, R: Wait + Abort>(
     board
 }
 
-#[test]
-fn a_seat_gets_its_answers(rt: HostRuntime) {
-    let p = fact(&rt, rt.alloc(), "p");
-    let board = after_each_call::<Brand, _>(&rt, rt.alloc(), &p, Blank::new(1));
+/// Each call has its entry in the history.
+fn expect_entries<L: Ledger, R: Wait + Abort>(rt: &R, alloc: Global, blank: Blank)
+    requires name { blank.name ≡ L.name }
+    requires parts { blank.parts ≡ L.parts }
+    requires some { 0 < blank.parts }
+{
+    let p = fact(rt, alloc, "p");
+    let board = after_each_call::<L, R>(rt, alloc, &p, blank);
     assert!(rt; board.entries() == 7);
     drop(board);
+}
+
+#[test]
+fn a_seat_gets_its_answers(rt: HostRuntime) {
+    expect_entries::<Brand, _>(&rt, rt.alloc(), Blank::new(1));
 }

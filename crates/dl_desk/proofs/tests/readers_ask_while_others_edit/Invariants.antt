@@ -1,4 +1,4 @@
 use Rattle.dl_desk.proofs.tests.readers_ask_while_others_edit.Given as goal
 
-abbrev pub ghosts-readers_and_editors : goal.ghosts-readers_and_editors
-ghosts-readers_and_editors g a = record { name = a.blank.name; parts = a.blank.parts }
+abbrev pub ghosts-expect_answered : goal.ghosts-expect_answered
+ghosts-expect_answered g a = record { name = a.blank.name; parts = a.blank.parts }

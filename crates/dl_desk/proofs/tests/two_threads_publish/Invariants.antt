@@ -1,4 +1,4 @@
 use Rattle.dl_desk.proofs.tests.two_threads_publish.Given as goal
 
-abbrev pub ghosts-two_publish : goal.ghosts-two_publish
-ghosts-two_publish g a = record { name = a.blank.name; parts = a.blank.parts }
+abbrev pub ghosts-expect_publications : goal.ghosts-expect_publications
+ghosts-expect_publications g a = record { name = a.blank.name; parts = a.blank.parts }
