@@ -1,7 +1,8 @@
-//! What an office answers to a hold.
+//! Answers to a hold.
 
 use crate::held::Held;
 
+/// What an office answers to a hold.
 #[derive(Drop)]
 pub enum HoldAnswer {
     /// The edition that was asked for.
