@@ -301,7 +301,7 @@ none_wait : (n : ℕ) → waiting (replicate n 0) ≡ 0
 none_wait zero = refl
 none_wait (suc n) = none_wait n
 
-pub fresh_kept : (n : ℕ) → n ≤ 2 ^ 39 → IsKept (replicate n false) (replicate n 0) 0 0 0
+pub fresh_kept : (n : ℕ) → n ≤ 2 ^ 31 → IsKept (replicate n false) (replicate n 0) 0 0 0
 fresh_kept n small = record {
   linked = record {
     room = length-replicate n 0 ∙ sym (length-replicate n false);

@@ -21,7 +21,7 @@ use Rattle.dl_fill.specs.Before.{Before}
 use Rattle.dl_fill.specs.Gates.{awaited}
 use Rattle.dl_fill.specs.Prepared.{one_if, IsBegun, IsClean, Begins, all_nodes, touched_gate}
 use Rattle.dl_fill.specs.Runs.{Fires, HasRun}
-use Rattle.dl_fill.proofs.Times.{times-append, times-get_or}
+use Rattle.dl_fill.proofs.Times.{times-append}
 use Rattle.dl_fill.proofs.Nodes.{node_parts, node_inside}
 use Rattle.dl_fill.proofs.Written.{times_contains}
 use Rattle.dl_fill.proofs.Starting.{begins_join, length-places, rows_fit, in_places, lits_apart, touched_cases, touched_begun}

@@ -140,7 +140,7 @@ give_fresh v w node h g i e now fresh =
       | inr none ↦ ap (λ (x : CounterLists). times node x.queue) e ∙ none
     ]
 
-pub hits_few : (g : Gate) (i : ℕ) → i < 2 ^ 39 → hits_of g i < 2 ^ 39
+pub hits_few : (g : Gate) (i : ℕ) → i < 2 ^ 31 → hits_of g i < 2 ^ 31
 hits_few Every i h = h
 hits_few Either i h = omega arith
 hits_few Now i h = omega arith

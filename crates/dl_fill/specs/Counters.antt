@@ -43,4 +43,4 @@ pub record IsKept (fired : List Bool) (slots : List ℕ) (first last len : ℕ) 
   pub linked : IsTrail fired slots first len
   pub ends : 0 < len → slice_index (trail len first slots) (len - 1) ≡ last
   pub few : len + waiting (needs fired slots) ≤ length fired
-  pub small : length fired ≤ 2 ^ 39
+  pub small : length fired ≤ 2 ^ 31

@@ -1,33 +1,28 @@
-//! A flag and a number at each place, in five bytes.
+//! A flag and a number at each place, in one word.
 
 ghost use Rattle.std.specs.Prelude.{◌≡◌, ◌<◌, ◌^◌, ℕ, Bool, false, [], length, replicate, slice_index, slice_index_or, slice_set, IfOk};
-ghost use Rattle.dl_fill.specs.Cells.{CellLists, flag_of, bits_of, number_of};
+ghost use Rattle.dl_fill.specs.Cells.{CellLists, flag_of, number_of};
 
 use dl_base::Memory;
 use std::alloc::Global;
 use std::marker::Model;
 
-/// What the lowest of the bits that stand in the byte counts.
-const HIGH: usize = 0x1_0000_0000;
+/// The highest bit of a word, which is the flag.
+const FLAG: u32 = 0x8000_0000;
 
-/// A flag and a number of 39 bits, by place.
+/// A flag and a number of 31 bits, by place.
 #[derive(Drop)]
 pub(crate) struct Cells {
-    /// The flag, above the seven highest bits of the number.
-    bytes: Vec<u8>,
-    /// The other bits of the number.
+    /// The flag, above the bits of the number: one look at memory finds both.
     words: Vec<u32>,
 }
 
 impl Model for Cells {
-    ghost use Rattle.std.specs.Prelude.{◌≡◌, length};
     ghost use Rattle.dl_fill.specs.Cells.{CellLists, flags_of, numbers_of};
 
     ghost Value = { CellLists };
 
-    ghost view = { λ w. record { flags = flags_of w.bytes.items; numbers = numbers_of w.bytes.items w.words.items } };
-
-    ghost invariant = { λ w. length w.words.items ≡ length w.bytes.items };
+    ghost view = { λ w. record { flags = flags_of w.words.items; numbers = numbers_of w.words.items } };
 }
 
 impl Cells {
@@ -36,7 +31,6 @@ impl Cells {
         ensures { result ≡ record { flags = []; numbers = [] } }
     {
         Cells {
-            bytes: Vec::new(alloc),
             words: Vec::new(alloc),
         }
     }
@@ -45,13 +39,12 @@ impl Cells {
     pub(crate) fn of_len(alloc: Global, len: usize) -> Result<Cells, Memory>
         ensures { IfOk result (λ cells. cells ≡ record { flags = replicate len false; numbers = replicate len 0 }) }
     {
-        let bytes = vec![in alloc; 0u8; len]?;
         let words = vec![in alloc; 0u32; len]?;
-        Ok(Cells { bytes, words })
+        Ok(Cells { words })
     }
 
     pub(crate) fn alloc(&self) -> Global {
-        *self.bytes.allocator()
+        *self.words.allocator()
     }
 
     /// How many places there are.
@@ -59,7 +52,7 @@ impl Cells {
         ensures flags { result ≡ length self.now.flags }
         ensures numbers { result ≡ length self.now.numbers }
     {
-        self.bytes.len()
+        self.words.len()
     }
 
     /// The flag at a place.
@@ -67,16 +60,16 @@ impl Cells {
         requires { place < length self.now.flags }
         ensures { result ≡ slice_index_or self.now.flags place false }
     {
-        flag(self.bytes[place])
+        flag(self.words[place])
     }
 
     /// The number at a place.
     pub(crate) fn number(&self, place: usize) -> usize
         requires { place < length self.now.flags }
         ensures number { result ≡ slice_index self.now.numbers place }
-        ensures few { result < 2 ^ 39 }
+        ensures few { result < 2 ^ 31 }
     {
-        number(self.bytes[place], self.words[place])
+        number(self.words[place]) as usize
     }
 
     /// The flag at a place is set or taken away.
@@ -84,44 +77,36 @@ impl Cells {
         requires { place < length self.old.flags }
         ensures { self.new ≡ record { flags = slice_set self.old.flags place on; numbers = self.old.numbers } }
     {
-        self.bytes[place] = byte(bits(self.bytes[place]), on);
+        self.words[place] = word(number(self.words[place]), on);
     }
 
     /// Another number at a place.
     pub(crate) fn put(&mut self, place: usize, number: usize)
         requires place { place < length self.old.flags }
-        requires few { number < 2 ^ 39 }
+        requires few { number < 2 ^ 31 }
         ensures { self.new ≡ record { flags = self.old.flags; numbers = slice_set self.old.numbers place number } }
     {
-        self.bytes[place] = byte((number / HIGH) as u8, flag(self.bytes[place]));
-        self.words[place] = (number % HIGH) as u32;
+        self.words[place] = word(number as u32, flag(self.words[place]));
     }
 }
 
-fn flag(byte: u8) -> bool
-    ensures { result ≡ flag_of byte }
+fn flag(word: u32) -> bool
+    ensures { result ≡ flag_of word }
 {
-    byte > 127
+    word >= FLAG
 }
 
-fn bits(byte: u8) -> u8
-    ensures bits { result ≡ bits_of byte }
-    ensures few { result < 128 }
+fn number(word: u32) -> u32
+    ensures number { result ≡ number_of word }
+    ensures few { result < 2 ^ 31 }
 {
-    if byte > 127 { byte - 128 } else { byte }
+    if word >= FLAG { word - FLAG } else { word }
 }
 
-fn byte(bits: u8, on: bool) -> u8
-    requires { bits < 128 }
-    ensures bits { bits_of result ≡ bits }
+fn word(number: u32, on: bool) -> u32
+    requires { number < 2 ^ 31 }
+    ensures number { number_of result ≡ number }
     ensures flag { flag_of result ≡ on }
 {
-    if on { bits + 128 } else { bits }
-}
-
-fn number(byte: u8, word: u32) -> usize
-    ensures number { result ≡ number_of byte word }
-    ensures few { result < 2 ^ 39 }
-{
-    bits(byte) as usize * HIGH + word as usize
+    if on { number + FLAG } else { number }
 }

@@ -10,9 +10,9 @@ use std::alloc::Global;
 use std::marker::Model;
 
 /// No more nodes than a cell tells apart.
-const MOST_NODES: usize = 0x80_0000_0000;
+const MOST_NODES: usize = 0x8000_0000;
 
-/// How many hits each node still waits for, and the nodes that wait no more, in order. A node takes five bytes.
+/// How many hits each node still waits for, and the nodes that wait no more, in order. A node takes four bytes.
 #[derive(Drop)]
 pub struct Counters {
     /// By node, whether it stands in the queue, and how many hits it still waits for; once it stands in the queue, the node that
@@ -48,7 +48,7 @@ impl Counters {
     }
 
     /// Room for `size` nodes, none of which waits. `Memory` leaves the counters as they were; it comes too where the nodes
-    /// are more than numbers of 39 bits tell.
+    /// are more than numbers of 31 bits tell.
     pub fn renew(&mut self, size: usize) -> Result<(), Memory>
         ensures need { OnOk result (self.new.need ≡ replicate size 0) }
         ensures queue { OnOk result (self.new.queue ≡ []) }
@@ -144,7 +144,7 @@ impl Counters {
     /// The node waits for that many hits.
     pub fn wait(&mut self, node: usize, hits: usize)
         requires node { node < length self.old.need }
-        requires few { hits < 2 ^ 39 }
+        requires few { hits < 2 ^ 31 }
         requires fresh { (hits ≡ 0) ⊎ (times node self.old.queue ≡ 0) }
         requires room { (hits ≡ 0) ⊎ (length self.old.queue + waiting self.old.need < length self.old.need) }
         ensures { self.new ≡ record { need = slice_set self.old.need node hits; queue = self.old.queue } }
@@ -182,7 +182,7 @@ impl Counters {
 /// The last of so many nodes tells the node after it; the answer is the first of all.
 fn link(cells: &mut Cells, first: usize, last: usize, len: usize, node: usize) -> usize
     requires last { (len ≡ 0) ⊎ (last < length cells.old.flags) }
-    requires node { node < 2 ^ 39 }
+    requires node { node < 2 ^ 31 }
     ensures flags { cells.new.flags ≡ cells.old.flags }
     ensures numbers { cells.new.numbers ≡ (if len == 0 then cells.old.numbers else slice_set cells.old.numbers last node) }
     ensures first { result ≡ (if len == 0 then node else first) }

@@ -27,7 +27,7 @@ fn more_if(count: usize, inside: bool) -> usize
 fn inside_len(net: &Net, region: &Region, rule: usize) -> usize
     requires { region.now.bound ≡ length net.now.names }
     ensures len { result ≡ length (filter (is_inside region.now.members) (back net.now link_kind.Uses rule)) }
-    ensures few { result < 2 ^ 32 }
+    ensures few { result < 2 ^ 26 }
 {
     let _names = net.names();
     let _len = net.back_len(Link::Uses, rule);
@@ -44,7 +44,7 @@ fn inside_len(net: &Net, region: &Region, rule: usize) -> usize
 fn inner_len(net: &Net, region: &Region, link: Link, place: usize) -> usize
     requires { region.now.bound ≡ length net.now.names }
     ensures len { result ≡ length (inner net.now (is_inside region.now.members) link place) }
-    ensures few { result < 2 ^ 32 }
+    ensures few { result < 2 ^ 26 }
 {
     match link {
         Link::Same => net.back_len(Link::Same, place),
@@ -69,7 +69,7 @@ fn inputs_len(
     requires wires { length wires.now ≤ 32 }
     requires bound { region.now.bound ≡ length net.now.names }
     ensures len { result ≡ length (inputs_at net.now (is_inside region.now.members) width wires.now kind place) }
-    ensures few { result < 2 ^ 39 }
+    ensures few { result < 2 ^ 31 }
 {
     let mut len = 0;
     for w in wires {
@@ -94,7 +94,7 @@ pub fn inputs_asked(
     requires bound { region.now.bound ≡ length net.now.names }
     ensures hits { hits_of gate result ≡ hits_of gate (length (inputs_at net.now (is_inside region.now.members) width wires.now kind place)) }
     ensures now { now_of gate result ≡ now_of gate (length (inputs_at net.now (is_inside region.now.members) width wires.now kind place)) }
-    ensures few { result < 2 ^ 39 }
+    ensures few { result < 2 ^ 31 }
 {
     match gate {
         Gate::Every => inputs_len(net, region, width, wires, kind, place),
@@ -129,7 +129,7 @@ fn fires_now(gate: Gate, inputs: usize) -> bool
 /// The node begins to wait, or goes into the queue.
 pub fn begin(counters: &mut Counters, node: usize, gate: Gate, inputs: usize)
     requires node { node < length counters.old.need }
-    requires few { inputs < 2 ^ 39 }
+    requires few { inputs < 2 ^ 31 }
     requires fresh { (gate ≡ Never) ⊎ (times node counters.old.queue ≡ 0) }
     requires room { (gate ≡ Never) ⊎ (length counters.old.queue + waiting counters.old.need < length counters.old.need) }
     ensures { counters.new ≡ begun counters.old node (hits_of gate inputs) (now_of gate inputs) }

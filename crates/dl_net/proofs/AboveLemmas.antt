@@ -62,7 +62,7 @@ module _ (label : List ℕ) (p : Rule → Bool) where
   unmarked_times true v e = cc
   unmarked_times false v e = refl
 
-  none_here : (rs : List Rule) (k : ℕ) → All (λ r. bytes_eq r.label label ≡ false) rs → places_from rows k rs 0 ≡ []
+  pub none_here : (rs : List Rule) (k : ℕ) → All (λ r. bytes_eq r.label label ≡ false) rs → places_from rows k rs 0 ≡ []
   none_here [] k h = refl
   none_here (r ∷ rs) k h =
       ap (λ n. replicate n k ++ places_from rows (suc k) rs 0)

@@ -1,5 +1,5 @@
 -- Tables that hold the same, one after another.
-use Rattle.std.proofs.Common.{◌≡◌, ℕ, List, [], ◌∷◌, ◌++◌, length, get_or, zero, suc, refl, ap, ◌∙◌, arith, length-append}
+use Rattle.std.proofs.Common.{◌≡◌, ◌≤◌, ℕ, List, [], ◌∷◌, ◌++◌, length, get_or, zero, suc, refl, ap, ◌∙◌, arith, length-append}
 use Rattle.dl_net.specs.Tables.{Table, KeepsLists}
 
 pub get_or-push_default : {X : Type 0} (xs : List X) (n : ℕ) (d : X) → get_or (xs ++ d ∷ []) n d ≡ get_or xs n d
@@ -18,10 +18,15 @@ KeepsLists-trans t u v h k = record {
   room = λ n. omega (arith, h.room n, k.room n);
 }
 
--- one more list, which is empty
-pub KeepsLists-grown : (old new : Table) → new.lists ≡ old.lists ++ [] ∷ [] → new.spare ≡ old.spare ++ 0 ∷ [] → KeepsLists old new
-KeepsLists-grown old new e f = record {
+pub get_or-push_rises : (xs : List ℕ) (x n : ℕ) → get_or xs n 0 ≤ get_or (xs ++ x ∷ []) n 0
+get_or-push_rises [] x n = omega arith
+get_or-push_rises (y ∷ xs) x zero = omega arith
+get_or-push_rises (y ∷ xs) x (suc n) = get_or-push_rises xs x n
+
+-- one more list, which is empty and has some room
+pub KeepsLists-grown : (old new : Table) (room : ℕ) → new.lists ≡ old.lists ++ [] ∷ [] → new.spare ≡ old.spare ++ room ∷ [] → KeepsLists old new
+KeepsLists-grown old new room e f = record {
   lists = λ n. ap (λ (ls : List (List ℕ)). get_or ls n []) e ∙ get_or-push_default old.lists n [];
   wide = omega (arith, ap length e, length-append old.lists ([] ∷ []));
-  room = λ n. omega (arith, ap (λ (ls : List ℕ). get_or ls n 0) f, get_or-push_default old.spare n 0);
+  room = λ n. omega (arith, ap (λ (ls : List ℕ). get_or ls n 0) f, get_or-push_rises old.spare room n);
 }

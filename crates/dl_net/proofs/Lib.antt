@@ -6,12 +6,17 @@ pub mod OnceLemmas
 pub mod PlaceLemmas
 pub mod RuleLemmas
 pub mod LinkLemmas
+pub mod OrderLemmas
+pub mod TakeLemmas
 pub mod NameLemmas
 pub mod AboveLemmas
+pub mod JoinLemmas
+pub mod DropLemmas
 pub mod NetLemmas
 pub mod KeptLemmas
 pub mod RowLemmas
 pub mod UpperLemmas
 pub mod FindLemmas
 pub mod OccursLemmas
+pub mod StagedLemmas
 mod RegionLemmas

@@ -1,15 +1,13 @@
 -- Literals and their numbers.
-use Rattle.std.proofs.Common.{◌≡◌, ◌≢◌, ◌⊎◌, ℕ, zero, suc, ◌+◌, ◌%◌, ◌<◌, Bool, true, false, not, Some, Result, Ok, Err, List, [], ◌∷◌, ◌++◌, length, get_or, set, get_or-set_same, get_or-set_other, refl, sym, ap, subst, ◌∙◌, arith, inl, inr, position}
+use Rattle.std.proofs.Common.{◌≡◌, ◌≢◌, ◌⊎◌, ℕ, zero, suc, ◌+◌, ◌%◌, ◌<◌, Bool, true, false, not, Some, Result, Ok, Err, List, [], ◌∷◌, ◌++◌, length, get_or, refl, sym, ap, subst, ◌∙◌, arith, inl, inr, position}
 use Rattle.std.specs.Prelude.{Contains, OnOk, OnErr, if◌then◌else◌}
 use Rattle.std.specs.Bool.{Decides}
 use Rattle.std.specs.List.{list_any}
-use Rattle.std.specs.Set.{is_member}
-use Rattle.std.proofs.lemmas.Bool.{cases_eq}
-use Rattle.std.proofs.lemmas.Bool.Decides.{Decides-like, same_from_decides}
-use Rattle.std.proofs.lemmas.List.{get_or_default, append_assoc, append-nil}
+use Rattle.std.proofs.Math.Seq.{get_or-append_seam}
+use Rattle.std.proofs.lemmas.List.{get_or_default, append_assoc, append-nil, length-append}
 use Rattle.std.proofs.lemmas.List.Sums.{position_or_len_is}
 use Rattle.std.proofs.lemmas.List.Quantifiers.{position-Some}
-use Rattle.std.proofs.lemmas.List.Elements.{All-nil, All-push, All-weaker, Contains-append_left, Contains-append_right, Contains-append_cases, Contains-push, All-append}
+use Rattle.std.proofs.lemmas.List.Elements.{All-nil, All-push, All-weaker, Contains-append_left, Contains-append_right, Contains-append_cases, All-append}
 use Rattle.std.proofs.lemmas.Map.Made.{is_member-Decides}
 use Rattle.dl_base.specs.Paths.{IsDistinct}
 use Rattle.dl_base.proofs.Filters.{false_unless}
@@ -20,7 +18,6 @@ use Rattle.dl_lit.specs.Names.{with_name, with_both}
 use Rattle.dl_lit.specs.Order.{literal_eq-Decides}
 use Rattle.dl_net.specs.Above.{flip}
 use Rattle.dl_theory.specs.declared.rule.Rule.{Rule}
-use Rattle.dl_net.specs.Numbers.{no_literal}
 use Rattle.dl_net.specs.Named.{IsPaired, IsNear, Grows, HasLiterals, number_in}
 
 -- ---- complements
@@ -175,6 +172,23 @@ pub by_result : {E : Type 0} (r : Result (Unit {0}) E) (P : List Literal → Typ
 by_result (Ok u) P old new with' ok err there kept = subst P (sym ok) there
 by_result (Err e) P old new with' ok err there kept = subst P (sym err) kept
 
+-- a literal that was not there gets the first number that was free
+pub number_fresh : (ls new : List Literal) (q : Literal) → IsPaired ls → ¬ Contains ls q → IsDistinct new → new ≡ with_both ls q → Contains new q
+    → number_in new q ≡ length ls
+number_fresh ls new q h none distinct is there =
+    elim (both_cases ls q h) [
+      | inl e ↦ absurd (none (subst (λ (ks : List Literal). Contains ks q) (is ∙ e) there))
+      | inr e ↦
+          let all : new ≡ ls ++ q ∷ complement q ∷ [] = is ∙ e ∙ append_assoc ls (q ∷ []) (complement q ∷ []) in
+          let here : get_or new (length ls) q ≡ q = ap (λ (ks : List Literal). get_or ks (length ls) q) all ∙ get_or-append_seam ls q (complement q ∷ []) q in
+          ap (number_in new) (sym here) ∙ number_at new (length ls) q distinct (omega (arith, ap length all, length-append ls (q ∷ complement q ∷ [])))
+    ]
+
+-- what holds whatever a call returns
+pub ok_from : {X : Type 0} {E : Type 0} (r : Result X E) (P : Type 0) → P → OnOk r P
+ok_from (Ok x) P p = p
+ok_from (Err e) P p = tt
+
 pub near_head : (q : Literal) (qs : List Literal) (r : Literal) → IsNear (q ∷ []) r → IsNear (q ∷ qs) r
 near_head q qs r (inl m) = inl (Contains-append_left (q ∷ []) qs r m)
 near_head q qs r (inr m) = inr (Contains-append_left (q ∷ []) qs (complement r) m)
@@ -190,25 +204,3 @@ near_member q qs r there (inr m) = inr (subst (λ (x : Literal). Contains qs x) 
 -- a rule's literals stay
 pub literals_kept : (a b : List Literal) (r : Rule) → ((q : Literal) → Contains a q → Contains b q) → HasLiterals a r → HasLiterals b r
 literals_kept a b r more h = (more r.head h.0, All-weaker (Contains a) (Contains b) more r.body h.1)
-
-pub mark_step : (ls xs : List Literal) (marks marks' : List Bool) (q : Literal) → IsDistinct ls → Contains ls q → marks' ≡ set marks (number_in ls q) true
-    → length ls ≡ length marks → ((n : ℕ) → n < length ls → get_or marks n false ≡ is_member literal_eq xs (get_or ls n no_literal))
-    → (n : ℕ) → n < length ls → get_or marks' n false ≡ is_member literal_eq (xs ++ q ∷ []) (get_or ls n no_literal)
-mark_step ls xs marks marks' q distinct there is same h n lt =
-    let x : Literal = get_or ls n no_literal in
-    let at = number_within ls q distinct there in
-    elim (cases_eq n (number_in ls q)) [
-      | inl e ↦
-          let here : x ≡ q = ap (λ k. get_or ls k no_literal) e ∙ at.1 no_literal in
-          ap (λ ms. get_or ms n false) is ∙ ap (λ k. get_or (set marks (number_in ls q) true) k false) e
-          ∙ get_or-set_same marks (number_in ls q) true false (omega (arith, at.0, same))
-          ∙ sym ((is_member-Decides literal_eq-Decides (xs ++ q ∷ []) x).1 (subst (λ (y : Literal). Contains (xs ++ q ∷ []) y) (sym here) (Contains-push xs q)))
-      | inr differs ↦
-          let other : x ≢ q = λ e. differs (sym (number_at ls n no_literal distinct lt) ∙ ap (number_in ls) e) in
-          ap (λ ms. get_or ms n false) is ∙ get_or-set_other marks (number_in ls q) n true false differs ∙ h n lt
-          ∙ same_from_decides (is_member literal_eq xs x) (is_member literal_eq (xs ++ q ∷ []) x) (is_member-Decides literal_eq-Decides xs x)
-          (Decides-like (is_member literal_eq (xs ++ q ∷ []) x)
-          (λ m. elim (Contains-append_cases xs (q ∷ []) x m) [ inl old ↦ old | inr one ↦ absurd (other (only q x one)) ])
-          (λ m. Contains-append_left xs (q ∷ []) x m)
-          (is_member-Decides literal_eq-Decides (xs ++ q ∷ []) x))
-    ]

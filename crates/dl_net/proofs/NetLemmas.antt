@@ -1,16 +1,17 @@
 -- The tables of a theory, of a theory after an edit, and of more names.
-use Rattle.std.proofs.Common.{◌≡◌, ◌≤◌, ◌<◌, ℕ, Bool, false, not, List, length, get_or, map, sym, ap, subst, ◌∙◌, inl, inr, arith, length-append}
-use Rattle.std.specs.Prelude.{All, Contains, flat_map}
+use Rattle.std.proofs.Common.{◌≡◌, ◌≢◌, ◌≤◌, ◌<◌, ℕ, Bool, true, false, not, List, length, get_or, set, map, refl, sym, ap, subst, ◌∙◌, inl, inr, arith, length-append, get_or-set_same, get_or-set_other}
+use Rattle.std.specs.Prelude.{All, Contains, filter, flat_map}
 use Rattle.std.specs.Str.{bytes_eq}
 use Rattle.std.specs.Set.{is_member}
-use Rattle.std.proofs.Math.ListN.{get_or-append}
-use Rattle.std.proofs.lemmas.Bool.{cases_lt}
+use Rattle.std.proofs.Math.ListN.{get_or-append, length-set}
+use Rattle.std.proofs.lemmas.Bool.{cases_eq, cases_lt}
+use Rattle.std.proofs.lemmas.Bool.Decides.{Decides-like, same_from_decides}
 use Rattle.std.proofs.lemmas.List.{get_or_default, get_or_past}
-use Rattle.std.proofs.lemmas.List.Elements.{All-contains, All-push, All-filter, All-weaker}
+use Rattle.std.proofs.lemmas.List.Elements.{All-contains, All-push, All-filter, All-weaker, filter_passes}
 use Rattle.std.proofs.lemmas.Map.Made.{is_member-Decides}
 use Rattle.dl_base.specs.Paths.{IsDistinct}
-use Rattle.dl_base.proofs.Filters.{false_unless}
-use Rattle.dl_base.proofs.Members.{map_agree}
+use Rattle.dl_base.proofs.Filters.{false_unless, Contains-kept}
+use Rattle.dl_base.proofs.Members.{map_agree, Contains-filtered}
 use Rattle.dl_lit.specs.declared.literal.Literal.{Literal}
 use Rattle.dl_lit.specs.Literal.{complement, literal_eq}
 use Rattle.dl_lit.specs.Order.{literal_eq-Decides}
@@ -26,7 +27,7 @@ use Rattle.dl_net.specs.Named.{IsPaired, HasLiterals, HasFacts, Grows, number_in
 use Rattle.dl_net.specs.Lines.{IndexLists}
 use Rattle.dl_net.specs.KeptNet.{HasTables}
 use Rattle.dl_net.specs.Edited.{HasEditLiterals}
-use Rattle.dl_net.proofs.NameLemmas.{paired_closed, complement_twice, number_at, Grows-keeps, literals_kept}
+use Rattle.dl_net.proofs.NameLemmas.{paired_closed, complement_twice, number_at, number_within, Grows-keeps, literals_kept}
 
 module _ (T : TheoryLists) (ls : List Literal) (facts : All (Contains ls) T.facts) (rules : All (HasLiterals ls) T.rules) where
   occurs_in : (q : Literal) → Occurs T q → Contains ls q
@@ -100,7 +101,7 @@ module _ (a b : List Literal) (distinct : IsDistinct b) (P : Literal → Type 0)
   distinct_before i j d before within same =
       distinct i j d before (omega (arith, within, longer)) (kept_at i d (omega (arith, before, within)) ∙ same ∙ sym (kept_at j d within))
 
-  number_kept : (q : Literal) → Contains a q → number_in a q ≡ number_in b q
+  pub number_kept : (q : Literal) → Contains a q → number_in a q ≡ number_in b q
   number_kept q m =
       ap (number_in a) (sym m.2) ∙ number_at a m.0 q distinct_before m.1
       ∙ sym (number_at b m.0 q distinct (omega (arith, m.1, longer))) ∙ ap (number_in b) (kept_at m.0 q m.1 ∙ m.2)
@@ -112,7 +113,7 @@ module _ (a b : List Literal) (distinct : IsDistinct b) (P : Literal → Type 0)
     body = map_agree (number_in a) (number_in b) r.body (All-weaker (Contains a) (λ q. number_in a q ≡ number_in b q) number_kept r.body h.1) i;
   }
 
-  lines_kept : (rs : List Rule) → All (HasLiterals a) rs → map (line_in a) rs ≡ map (line_in b) rs
+  pub lines_kept : (rs : List Rule) → All (HasLiterals a) rs → map (line_in a) rs ≡ map (line_in b) rs
   lines_kept rs h = map_agree (line_in a) (line_in b) rs (All-weaker (HasLiterals a) (λ r. line_in a r ≡ line_in b r) line_kept rs h)
 
   -- what was not among the names is no fact
@@ -121,7 +122,7 @@ module _ (a b : List Literal) (distinct : IsDistinct b) (P : Literal → Type 0)
       distinct m.0 n (get_or b n d) (omega (arith, m.1, past)) lt
       (kept_at m.0 (get_or b n d) m.1 ∙ m.2 ∙ get_or_default b n d (get_or b n d) lt)
 
-  marks_kept : (facts : List Literal) (marks : List Bool) → All (Contains a) facts → HasFacts a facts marks → HasFacts b facts marks
+  pub marks_kept : (facts : List Literal) (marks : List Bool) → All (Contains a) facts → HasFacts a facts marks → HasFacts b facts marks
   marks_kept facts marks named h = record {
     marked = λ n lt. elim (cases_lt n (length a)) [
       | inl before ↦ h.marked n before ∙ ap (is_member literal_eq facts) (sym (kept_at n no_literal before))
@@ -145,3 +146,59 @@ tables_grown N marks x ls P distinct g h = record {
     uppers = h.index.uppers;
   };
 }
+
+-- a fact less
+pub facts_left : (ls facts : List Literal) (marks : List Bool) (q : Literal) → IsDistinct ls → Contains ls q → HasFacts ls facts marks
+    → HasFacts ls (filter (λ x. not (literal_eq x q)) facts) (set marks (number_in ls q) false)
+facts_left ls facts marks q distinct there h = record {
+  marked = λ n lt. elim (cases_eq n (number_in ls q)) [
+    | inl e ↦
+        let here : get_or ls n no_literal ≡ q = ap (λ k. get_or ls k no_literal) e ∙ (number_within ls q distinct there).1 no_literal in
+        ap (λ k. get_or (set marks (number_in ls q) false) k false) e
+        ∙ set_default marks (number_in ls q)
+        ∙ sym (false_unless (is_member literal_eq (filter (λ x. not (literal_eq x q)) facts) (get_or ls n no_literal))
+        (is_member-Decides literal_eq-Decides (filter (λ x. not (literal_eq x q)) facts) (get_or ls n no_literal))
+        (λ m. not_left facts q (subst (λ (x : Literal). Contains (filter (λ y. not (literal_eq y q)) facts) x) here m)))
+    | inr apart ↦
+        let other : get_or ls n no_literal ≢ q = λ e. apart (sym (number_at ls n no_literal distinct lt) ∙ ap (number_in ls) e) in
+        get_or-set_other marks (number_in ls q) n false false apart ∙ h.marked n lt
+        ∙ same_from_decides (is_member literal_eq facts (get_or ls n no_literal)) (is_member literal_eq (filter (λ x. not (literal_eq x q)) facts) (get_or ls n no_literal))
+        (is_member-Decides literal_eq-Decides facts (get_or ls n no_literal))
+        (Decides-like (is_member literal_eq (filter (λ x. not (literal_eq x q)) facts) (get_or ls n no_literal))
+        (λ m. Contains-filtered (λ x. not (literal_eq x q)) facts (get_or ls n no_literal) m)
+        (λ m. Contains-kept (λ x. not (literal_eq x q)) facts (get_or ls n no_literal) m
+        (ap not (false_unless (literal_eq (get_or ls n no_literal) q) (literal_eq-Decides (get_or ls n no_literal) q) other)))
+        (is_member-Decides literal_eq-Decides (filter (λ x. not (literal_eq x q)) facts) (get_or ls n no_literal)))
+  ];
+  within = omega (arith, h.within, length-set marks (number_in ls q) false);
+}
+  where
+    set_default : (ms : List Bool) (n : ℕ) → get_or (set ms n false) n false ≡ false
+    set_default ms n =
+        elim (cases_lt n (length ms)) [
+          | inl lt ↦ get_or-set_same ms n false false lt
+          | inr past ↦ get_or_past (set ms n false) n false (omega (arith, past, length-set ms n false))
+        ]
+
+    not_left : (xs : List Literal) (x : Literal) → ¬ Contains (filter (λ y. not (literal_eq y x)) xs) x
+    not_left xs x m =
+        let passes : not (literal_eq x x) ≡ true =
+        All-contains (λ y. not (literal_eq y x) ≡ true) (filter (λ y. not (literal_eq y x)) xs) x (filter_passes (λ y. not (literal_eq y x)) xs) m in
+        let same : literal_eq x x ≡ true = (literal_eq-Decides x x).1 refl in
+        cc
+
+-- a fact has a mark
+pub fact_marked : (ls facts : List Literal) (marks : List Bool) (q : Literal) → IsDistinct ls → Contains ls q → Contains facts q → HasFacts ls facts marks
+    → number_in ls q < length marks
+fact_marked ls facts marks q distinct there fact h =
+    let at = number_within ls q distinct there in
+    elim (cases_lt (number_in ls q) (length marks)) [
+      | inl lt ↦ lt
+      | inr past ↦
+          let off : get_or marks (number_in ls q) false ≡ false = get_or_past marks (number_in ls q) false past in
+          let on : is_member literal_eq facts (get_or ls (number_in ls q) no_literal) ≡ true =
+          (is_member-Decides literal_eq-Decides facts (get_or ls (number_in ls q) no_literal)).1
+          (subst (λ (x : Literal). Contains facts x) (sym (at.1 no_literal)) fact) in
+          let same = h.marked (number_in ls q) at.0 in
+          cc
+    ]

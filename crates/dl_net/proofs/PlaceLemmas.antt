@@ -82,7 +82,7 @@ filter_and : {X : Type 0} (p : X → Bool) (x : X) (b : Bool) (us vs : List X) �
 filter_and {X} p x true us vs e = ap (λ (ys : List X). cond (p x) (x ∷ ys) ys) e
 filter_and p x false us vs e = e
 
-filter_both : {X : Type 0} (p t : X → Bool) (xs : List X) → filter p (filter t xs) ≡ filter (λ x. t x && p x) xs
+pub filter_both : {X : Type 0} (p t : X → Bool) (xs : List X) → filter p (filter t xs) ≡ filter (λ x. t x && p x) xs
 filter_both p t [] = refl
 filter_both p t (x ∷ xs) = filter_and p x (t x) (filter t xs) (filter (λ y. t y && p y) xs) (filter_both p t xs)
 

@@ -5,6 +5,7 @@ use Rattle.std.proofs.Math.ListN.{length-set}
 use Rattle.std.proofs.lemmas.Bool.{cases_eq, cases_lt}
 use Rattle.std.proofs.lemmas.List.{get_or_append_left, get_or_at, map-append, append-nil}
 use Rattle.std.proofs.lemmas.List.Elements.{All-push, All-get_or, All-weaker, All-contains, All-contains_itself, filter-append}
+use Rattle.std.proofs.lemmas.List.Quantifiers.{all_pairs_push}
 use Rattle.dl_base.proofs.Members.{map_agree}
 use Rattle.dl_net.specs.declared.entry.Entry.{Entry}
 use Rattle.dl_net.specs.Tables.{Table, list_at, KeepsLists}
@@ -72,6 +73,7 @@ module _ (entries : List (Option Entry)) (e : Entry) where
             (All-weaker (λ s. s < length entries) (λ s. s < length (entries ++ Some e ∷ [])) (λ s lt. omega (arith, length-append entries (Some e ∷ []), lt)) order h.within)
             (omega (arith, length-append entries (Some e ∷ [])));
         fewer = omega (arith, length-append entries (Some e ∷ []), length-append order (length entries ∷ []), h.fewer);
+        rising = all_pairs_push (λ a b. a < b) order (length entries) h.rising h.within;
         placed = λ k lt. placed_add order places k h.placed h.within h.as_long lt;
         as_long = omega (arith, length-append entries (Some e ∷ []), length-append places (length order ∷ []), h.as_long);
         kept = subst (λ (w : ℕ). All (λ s. IsKeptEntry w (entry_at (entries ++ Some e ∷ []) s)) (order ++ length entries ∷ [])) (sym same)
@@ -137,6 +139,7 @@ pub HasRules-kept : (entries : List (Option Entry)) (order places : List ℕ) (h
 HasRules-kept entries order places heads uses heads' uses' h kh ku wide = record {
   within = h.within;
   fewer = h.fewer;
+  rising = h.rising;
   placed = h.placed;
   as_long = h.as_long;
   kept = All-weaker (λ s. IsKeptEntry (length heads.lists) (entry_at entries s)) (λ s. IsKeptEntry (length heads'.lists) (entry_at entries s))

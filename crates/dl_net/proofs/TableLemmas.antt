@@ -1,7 +1,9 @@
 -- One list of a table changes.
-use Rattle.std.specs.Vec.{vec_len, vec_capacity}
+use Rattle.smallvec.specs.SmallVec.{SmallVec, small_vec_len}
+use Rattle.std.specs.List.Retain.{RetainsInTurn}
+use Rattle.std.specs.Prelude.{Bool, cond, filter, ◌∷◌}
 use Rattle.dl_net.specs.Tables.{KeepsLists}
-use Rattle.std.proofs.Common.{◌≡◌, ◌≢◌, ℕ, ◌<◌, ◌≤◌, ◌-◌, Vec, Global, List, [], length, get_or, set, map, sym, ap, ◌∙◌, subst, arith, inl, inr, get_or-set_same, get_or-set_other}
+use Rattle.std.proofs.Common.{◌≡◌, ◌≢◌, ℕ, ◌<◌, ◌≤◌, ◌-◌, List, [], length, get_or, set, map, sym, ap, ◌∙◌, subst, arith, inl, inr, get_or-set_same, get_or-set_other}
 use Rattle.std.proofs.Math.ListN.{length-map}
 use Rattle.std.proofs.lemmas.List.{get_or-map, map-set, get_or_past}
 use Rattle.std.proofs.Math.Seq.{map-set_same}
@@ -38,12 +40,21 @@ spare_within xs i h =
     elim (cases_lt i (length xs)) [ inl lt ↦ lt | inr ge ↦ let none : get_or xs i 0 ≡ 0 = get_or_past xs i 0 ge in absurd (omega (arith, none, h)) ]
 
 -- a list of which only the room grows
-pub kept_lists : (xs : List (Vec ℕ Global)) (i : ℕ) (old new : Vec ℕ Global) → i < length xs → old ≡ get_or xs i old → new.items ≡ old.items
-    → vec_capacity old - vec_len old ≤ vec_capacity new - vec_len new
-    → KeepsLists (record { lists = map (λ v. v.items) xs; spare = map (λ v. vec_capacity v - vec_len v) xs })
-    (record { lists = map (λ v. v.items) (set xs i new); spare = map (λ v. vec_capacity v - vec_len v) (set xs i new) })
+pub kept_lists : (xs : List (SmallVec ℕ)) (i : ℕ) (old new : SmallVec ℕ) → i < length xs → old ≡ get_or xs i old → new.items ≡ old.items
+    → old.capacity - small_vec_len old ≤ new.capacity - small_vec_len new
+    → KeepsLists (record { lists = map (λ v. v.items) xs; spare = map (λ v. v.capacity - small_vec_len v) xs })
+    (record { lists = map (λ v. v.items) (set xs i new); spare = map (λ v. v.capacity - small_vec_len v) (set xs i new) })
 kept_lists xs i old new within read same up = record {
   lists = λ n. ap (λ (ls : List (List ℕ)). get_or ls n []) (map_kept (λ v. v.items) xs i old new within read same);
   wide = omega (arith, ap length (map_kept (λ v. v.items) xs i old new within read same));
-  room = map_rises (λ v. vec_capacity v - vec_len v) xs i old new within read up;
+  room = map_rises (λ v. v.capacity - small_vec_len v) xs i old new within read up;
 }
+
+-- where no call changes the closure or the element, those that pass the test are left
+pub filter_retained : {X F : Type 0} (R : F → X → Bool → F → X → Type 0) (test : X → Bool) (f : F)
+    → ((x : X) (b : Bool) (f' : F) (y : X) → R f x b f' y → (b ≡ test x) × (f' ≡ f) × (y ≡ x)) → (xs ys : List X) → RetainsInTurn R f xs ys → ys ≡ filter test xs
+filter_retained R test f says [] ys h = h
+filter_retained R test f says (x ∷ xs) ys h =
+    let said = says x h.0 h.1 h.2 h.3 in
+    let rest = filter_retained R test f says xs h.4 (subst (λ g. RetainsInTurn R g xs h.4) said.1 h.5) in
+    h.6 ∙ (λ i. cond (said.0 i) (said.2 i ∷ rest i) (rest i))

@@ -1,5 +1,5 @@
 -- What ties rules by inner number to the lists that lead to them. Each list of an index is a part of the list of live rules.
-use Rattle.std.specs.Prelude.{◌≡◌, ℕ, ◌<◌, ◌≤◌, ◌==◌, Option, List, [], length, get_or, map, filter, All, Contains}
+use Rattle.std.specs.Prelude.{◌≡◌, ℕ, ◌<◌, ◌≤◌, ◌==◌, Option, List, [], length, get_or, map, filter, All, AllPairs, Contains}
 use Rattle.dl_net.specs.declared.entry.Entry.{Entry}
 use Rattle.dl_net.specs.Tables.{Table, list_at}
 use Rattle.dl_net.specs.Lines.{Line, is_in, line_of, entry_at, IsKeptEntry}
@@ -11,9 +11,18 @@ place_in places s = get_or places s 0
 abbrev pub line_at : List (Option Entry) → ℕ → Line
 line_at entries s = line_of (entry_at entries s)
 
+-- each number is below all later ones
+abbrev pub IsRising : List ℕ → Type 0
+IsRising xs = AllPairs (λ a b. a < b) xs
+
+-- each number of the list stands at its own place
+abbrev pub IsStill : List ℕ → Type 0
+IsStill xs = (k : ℕ) → k < length xs → get_or xs k 0 ≡ k
+
 pub record HasRules (entries : List (Option Entry)) (order places : List ℕ) (heads uses : Table) : Type 0 where
   pub within : All (λ s. s < length entries) order
   pub fewer : length order ≤ length entries
+  pub rising : IsRising order
   pub placed : (k : ℕ) → k < length order → place_in places (get_or order k 0) ≡ k
   pub as_long : length places ≡ length entries
   pub kept : All (λ s. IsKeptEntry (length heads.lists) (entry_at entries s)) order

@@ -1,28 +1,31 @@
--- How the fields of a net hold a theory by numbers, and the theory by an edit that is prepared.
-use Rattle.std.specs.Prelude.{◌≡◌, Bool, true, Option, None, Some, List, map, All, Contains}
+-- How the fields of a net hold a theory by numbers, and the room for an edit that is prepared.
+use Rattle.std.specs.Prelude.{◌≡◌, Bool, true, false, Option, None, List, map, All, Contains}
+use Rattle.dl_lit.specs.declared.literal.Literal.{Literal}
 use Rattle.dl_theory.specs.declared.edit.Edit.{Edit}
 use Rattle.dl_theory.specs.Lists.{TheoryLists, IsWellFormed}
-use Rattle.dl_theory.specs.Edits.{IsAccepted, after_edit}
 use Rattle.dl_net.specs.declared.net.Net.TheInside.{Inside}
-use Rattle.dl_net.specs.declared.next.Next.{Next}
 use Rattle.dl_net.specs.Numbers.{NetLists, IsNumbered, lowers_row, uppers_row}
 use Rattle.dl_net.specs.Lines.{IndexLists}
 use Rattle.dl_net.specs.Named.{IsPaired, HasLiterals, HasFacts, line_in}
+use Rattle.dl_net.specs.Room.{HasPending}
 
 abbrev pub theory_of : Inside → TheoryLists
-theory_of a = a.theory
+theory_of a = a.staged.theory
 
-abbrev pub pending_of : Option Next → Option Edit
-pending_of None = None
-pending_of (Some n) = Some n.edit
+abbrev pub pending_of : Inside → Option Edit
+pending_of a = a.staged.pending
 
 abbrev pub net_of : Inside → NetLists
 net_of a = record {
-  theory = a.theory;
+  theory = a.staged.theory;
   names = a.names.literals;
-  pending = pending_of a.next;
+  pending = a.staged.pending;
   frozen = a.frozen;
 }
+
+-- a theory by the numbers of literals
+abbrev pub numbered : TheoryLists → List Literal → NetLists
+numbered T ls = record { theory = T; names = ls; pending = None; frozen = false }
 
 -- the index holds the rules, and for each those below it and above it
 pub record HasIndex (N : NetLists) (x : IndexLists) : Type 0 where
@@ -37,20 +40,11 @@ pub record HasTables (N : NetLists) (marks : List Bool) (x : IndexLists) : Type 
   pub facts : HasFacts N.names N.theory.facts marks
   pub index : HasIndex N x
 
--- the tables after the edit that is prepared
-pub record HasEdit (N : NetLists) (n : Next) : Type 0 where
-  pub accepted : IsAccepted N.theory n.edit
-  pub changed : n.theory ≡ after_edit N.theory n.edit
-  pub tables : HasTables (record N { theory = n.theory }) n.facts.items n.index
-
-abbrev pub HasNext : NetLists → Option Next → Type 0
-HasNext N None = Unit {0}
-HasNext N (Some n) = HasEdit N n
-
 pub record IsKeptNet (a : Inside) : Type 0 where
-  pub formed : IsWellFormed a.theory
+  pub formed : IsWellFormed a.staged.theory
   pub numbered : IsNumbered (net_of a)
   pub paired : IsPaired a.names.literals
   pub tables : HasTables (net_of a) a.facts.items a.index
-  pub next : HasNext (net_of a) a.next
+  pub pending : HasPending (net_of a) a.facts.items a.index a.staged.pending
   pub frozen : a.frozen ≡ true → a.names.frozen ≡ true
+  pub settled : a.frozen ≡ true → a.staged.pending ≡ None

@@ -8,6 +8,9 @@ pub mod Indexes
 pub mod KeptIndex
 pub mod Named
 pub mod Above
-pub mod KeptNet
 pub mod Edited
+pub mod Staged
+pub mod KeptStaged
+pub mod Room
+pub mod KeptNet
 pub mod Region

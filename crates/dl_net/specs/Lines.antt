@@ -1,5 +1,5 @@
 -- Rules by number, and the lists that lead to them.
-use Rattle.std.specs.Prelude.{◌≡◌, ℕ, ◌<◌, ◌≤◌, ◌^◌, ◌==◌, Bool, cond, Option, None, Some, List, [], ◌∷◌, length, All, get_or, Vec}
+use Rattle.std.specs.Prelude.{◌≡◌, ℕ, ◌-◌, ◌<◌, ◌≤◌, ◌^◌, ◌==◌, nat_lt, Bool, not, cond, Option, None, Some, List, [], ◌∷◌, length, All, get_or, map, filter, Vec}
 use Rattle.std.specs.declared.alloc.Global.{Global}
 use Rattle.std.specs.List.{list_any}
 use Rattle.dl_theory.specs.declared.rule.Kind.{Kind}
@@ -66,6 +66,14 @@ IsWithin width l = (l.head < width) × All (λ b. b < width) l.body
 abbrev pub list_of : List (List ℕ) → ℕ → List ℕ
 list_of lists n = get_or lists n []
 
+-- the place of a rule when the one at k goes
+abbrev pub place_without : ℕ → ℕ → ℕ
+place_without k i = cond (nat_lt i k) i (i - 1)
+
+-- places of rules when the one at k goes
+abbrev pub list_without : ℕ → List ℕ → List ℕ
+list_without k xs = map (place_without k) (filter (λ i. not (i == k)) xs)
+
 -- ---- by inner number
 
 abbrev pub line_of : Option Entry → Line
@@ -88,7 +96,7 @@ once_list e = once_or e.once e.body.items
 pub record IsFit (width : ℕ) (e : Entry) : Type 0 where
   pub within : IsWithin width (line_of (Some e))
   pub once : once_list e ≡ each_once e.body.items
-  pub short : length e.body.items < 2 ^ 32
+  pub short : length e.body.items < 2 ^ 26
 
 -- the entry of a rule that is there
 abbrev pub IsKeptEntry : ℕ → Option Entry → Type 0

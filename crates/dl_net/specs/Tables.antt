@@ -1,5 +1,5 @@
 -- A table of lists of numbers.
-use Rattle.std.specs.Prelude.{◌≡◌, ℕ, ◌≤◌, ◌-◌, ◌+◌, Bool, ◌==◌, List, [], length, get_or}
+use Rattle.std.specs.Prelude.{◌≡◌, ℕ, ◌≤◌, ◌-◌, ◌+◌, Bool, ◌==◌, not, List, [], length, get_or, filter}
 
 -- the lists, and how many numbers more each of them takes without memory
 pub record Table : Type 0 where
@@ -21,6 +21,10 @@ pub record KeepsLists (old new : Table) : Type 0 where
   pub lists : (n : ℕ) → list_at new n ≡ list_at old n
   pub wide : length old.lists ≤ length new.lists
   pub room : (n : ℕ) → spare_at old n ≤ spare_at new n
+
+-- the numbers without x
+abbrev pub drop_item : ℕ → List ℕ → List ℕ
+drop_item x xs = filter (λ y. not (y == x)) xs
 
 -- whether x is the last of the numbers
 abbrev pub ends_with : List ℕ → ℕ → Bool

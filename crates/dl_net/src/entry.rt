@@ -4,6 +4,7 @@ ghost use Rattle.std.specs.Prelude.{◌≡◌};
 ghost use Rattle.dl_net.specs.Lines.{once_list};
 
 use dl_theory::Kind;
+use smallvec::SmallVec;
 
 /// A rule whose literals are numbers.
 #[derive(Drop)]
@@ -11,7 +12,7 @@ pub(crate) struct Entry {
     pub kind: Kind,
     pub head: u32,
     /// The numbers of the body in its order, with repeats.
-    pub body: Vec<u32>,
+    pub body: SmallVec<u32, 4>,
     /// The numbers of the body, each where it first stands; `None` where none stands twice.
     pub once: Option<Vec<u32>>,
 }

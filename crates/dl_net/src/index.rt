@@ -1,20 +1,21 @@
 //! Rules by number, each found by its head, by each literal of its body, and by what it is superior or inferior to.
 //!
 //! Inside, a rule has a number that does not move; callers name it by its place in the list. A rule that goes leaves its
-//! number empty, and no other rule's body, index or number changes.
+//! number empty, and no other rule's body, index or number changes. As long as none has gone, place and number are the same.
 
-ghost use Rattle.std.specs.Prelude.{◌≡◌, ℕ, ◌+◌, ◌<◌, ◌≤◌, ◌^◌, [], ◌∷◌, ◌++◌, All, Some, None, IsSome, IfSome, OnOk, OnErr, option_to_list, length, filter, slice_get, get_or, set, map};
+ghost use Rattle.std.specs.Prelude.{◌≡◌, ℕ, ◌+◌, ◌<◌, ◌≤◌, ◌^◌, [], ◌∷◌, ◌++◌, All, Some, None, IsSome, IfSome, OnOk, OnErr, option_to_list, length, filter, slice_get, get_or, set, map, remove};
 ghost use Rattle.dl_theory.specs.Lists.{is_strict, can_support};
 ghost use Rattle.dl_net.specs.Counting.{each_once};
 ghost use Rattle.dl_net.specs.Rows.{places, row};
-ghost use Rattle.dl_net.specs.Tables.{list_at};
-ghost use Rattle.dl_net.specs.Lines.{KeepsRules, no_index, no_line, list_of, line_of, once_list, entry_at, heads_row, uses_row, kind_row, IsWithin};
-ghost use Rattle.dl_net.specs.Indexes.{place_in};
+ghost use Rattle.dl_net.specs.Tables.{list_at, drop_item};
+ghost use Rattle.dl_net.specs.Lines.{KeepsRules, no_index, no_line, list_of, line_of, once_list, entry_at, heads_row, uses_row, kind_row, IsWithin, list_without};
+ghost use Rattle.dl_net.specs.Indexes.{place_in, IsStill};
 
 use crate::counts::{can_support, count, passes};
 use crate::entry::{Between, Entry, Room};
 use crate::put::{put_rule, reserve_rule, widen};
 use crate::rows::RowTable;
+use crate::take::{place_from, take_links, take_rule};
 use dl_base::Memory;
 use dl_theory::Kind;
 use std::alloc::Global;
@@ -78,7 +79,7 @@ impl Index {
     pub fn reserve(&mut self, entry: Entry) -> Result<(), Memory>
         requires within { IsWithin self.old.width (line_of (Some entry)) }
         requires once { once_list entry ≡ each_once entry.body.items }
-        requires short { length entry.body.items < 2 ^ 32 }
+        requires short { length entry.body.items < 2 ^ 26 }
         ensures kept { KeepsRules self.old self.new }
         ensures ready { OnOk result (self.new.ready ≡ Some (line_of (Some entry))) }
         ensures forgotten { OnErr result (self.new.ready ≡ None) }
@@ -134,8 +135,8 @@ impl Index {
         ensures ready { self.new.ready ≡ None }
     {
         self.room = Room::Nothing;
-        let upper = self.order[upper];
-        let lower = self.order[lower];
+        let upper = number_at(self.order.as_slice(), self.places.len(), upper);
+        let lower = number_at(self.order.as_slice(), self.places.len(), lower);
         self.lowers.reserve(upper as usize)?;
         self.uppers.reserve(lower as usize)?;
         self.room = Room::ForLink(Between { upper, lower });
@@ -160,6 +161,43 @@ impl Index {
                 self.uppers.push(link.lower as usize, link.upper);
             }
         }
+    }
+
+    /// The rule at a place goes, and with it what stands below and above it. Takes no memory.
+    pub fn take(&mut self, place: usize)
+        requires place { place < length self.old.lines }
+        requires few { length self.old.lines < 2 ^ 32 }
+        ensures lines { self.new.lines ≡ remove self.old.lines place }
+        ensures lowers { self.new.lowers ≡ map (list_without place) (remove self.old.lowers place) }
+        ensures uppers { self.new.uppers ≡ map (list_without place) (remove self.old.uppers place) }
+        ensures width { self.new.width ≡ self.old.width }
+        ensures ready { self.new.ready ≡ None }
+        ensures linking { self.new.linking ≡ None }
+    {
+        self.room = Room::Nothing;
+        let rule = number_at(self.order.as_slice(), self.places.len(), place);
+        take_rule(&mut self.entries, &mut self.heads, &mut self.uses, rule);
+        take_links(&mut self.lowers, &mut self.uppers, rule);
+        self.order.remove(place);
+        place_from(&mut self.places, self.order.as_slice(), place);
+    }
+
+    /// The rule at one place no longer stands below the rule at another. Takes no memory.
+    pub fn take_link(&mut self, upper: usize, lower: usize)
+        requires upper { upper < length self.old.lines }
+        requires lower { lower < length self.old.lines }
+        ensures lines { self.new.lines ≡ self.old.lines }
+        ensures lowers { self.new.lowers ≡ set self.old.lowers upper (drop_item lower (list_of self.old.lowers upper)) }
+        ensures uppers { self.new.uppers ≡ set self.old.uppers lower (drop_item upper (list_of self.old.uppers lower)) }
+        ensures width { self.new.width ≡ self.old.width }
+        ensures ready { self.new.ready ≡ None }
+        ensures linking { self.new.linking ≡ None }
+    {
+        self.room = Room::Nothing;
+        let upper = number_at(self.order.as_slice(), self.places.len(), upper);
+        let lower = number_at(self.order.as_slice(), self.places.len(), lower);
+        self.lowers.remove(upper as usize, lower);
+        self.uppers.remove(lower as usize, upper);
     }
 
     /// How many rules there are.
@@ -196,7 +234,7 @@ impl Index {
     /// How many numbers the body has, each counted once; none past the end.
     pub fn width(&self, rule: usize) -> usize
         ensures width { result ≡ length (row uses_row self.now.lines rule) }
-        ensures few { result < 2 ^ 32 }
+        ensures few { result < 2 ^ 26 }
     {
         if rule >= self.len() {
             return 0;
@@ -254,9 +292,10 @@ impl Index {
         requires { rule < length self.now.lines }
         ensures line { line_of (Some result.now) ≡ get_or self.now.lines rule no_line }
         ensures once { once_list result.now ≡ each_once result.now.body.items }
-        ensures short { length result.now.body.items < 2 ^ 32 }
+        ensures short { length result.now.body.items < 2 ^ 26 }
     {
-        match &self.entries[self.order[rule] as usize] {
+        let inner = number_at(self.order.as_slice(), self.places.len(), rule);
+        match &self.entries[inner as usize] {
             None => unreachable!(),
             Some(entry) => entry,
         }
@@ -266,7 +305,13 @@ impl Index {
     pub fn heads_at(&self, number: usize, at: usize) -> Option<usize>
         ensures { result ≡ slice_get (places heads_row self.now.lines number) at }
     {
-        place_at(&self.heads, self.places.as_slice(), number, at)
+        place_at(
+            &self.heads,
+            self.places.as_slice(),
+            self.order.len(),
+            number,
+            at,
+        )
     }
 
     pub fn heads_len(&self, number: usize) -> usize
@@ -288,7 +333,13 @@ impl Index {
     pub fn uses_at(&self, number: usize, at: usize) -> Option<usize>
         ensures { result ≡ slice_get (places uses_row self.now.lines number) at }
     {
-        place_at(&self.uses, self.places.as_slice(), number, at)
+        place_at(
+            &self.uses,
+            self.places.as_slice(),
+            self.order.len(),
+            number,
+            at,
+        )
     }
 
     pub fn uses_len(&self, number: usize) -> usize
@@ -301,38 +352,54 @@ impl Index {
     pub fn lower_at(&self, rule: usize, at: usize) -> Option<usize>
         ensures { result ≡ slice_get (list_of self.now.lowers rule) at }
     {
-        match self.order.get(rule) {
-            None => None,
-            Some(inner) => place_at(&self.lowers, self.places.as_slice(), *inner as usize, at),
+        if rule >= self.order.len() {
+            return None;
         }
+        let inner = number_at(self.order.as_slice(), self.places.len(), rule);
+        place_at(
+            &self.lowers,
+            self.places.as_slice(),
+            self.order.len(),
+            inner as usize,
+            at,
+        )
     }
 
     pub fn lower_len(&self, rule: usize) -> usize
         ensures { result ≡ length (list_of self.now.lowers rule) }
     {
-        match self.order.get(rule) {
-            None => 0,
-            Some(inner) => self.lowers.count(*inner as usize),
+        if rule >= self.order.len() {
+            return 0;
         }
+        let inner = number_at(self.order.as_slice(), self.places.len(), rule);
+        self.lowers.count(inner as usize)
     }
 
     /// The place of the rule at a place among those above one.
     pub fn upper_at(&self, rule: usize, at: usize) -> Option<usize>
         ensures { result ≡ slice_get (list_of self.now.uppers rule) at }
     {
-        match self.order.get(rule) {
-            None => None,
-            Some(inner) => place_at(&self.uppers, self.places.as_slice(), *inner as usize, at),
+        if rule >= self.order.len() {
+            return None;
         }
+        let inner = number_at(self.order.as_slice(), self.places.len(), rule);
+        place_at(
+            &self.uppers,
+            self.places.as_slice(),
+            self.order.len(),
+            inner as usize,
+            at,
+        )
     }
 
     pub fn upper_len(&self, rule: usize) -> usize
         ensures { result ≡ length (list_of self.now.uppers rule) }
     {
-        match self.order.get(rule) {
-            None => 0,
-            Some(inner) => self.uppers.count(*inner as usize),
+        if rule >= self.order.len() {
+            return 0;
         }
+        let inner = number_at(self.order.as_slice(), self.places.len(), rule);
+        self.uppers.count(inner as usize)
     }
 
     /// How many of the rules above one can support their heads.
@@ -342,7 +409,7 @@ impl Index {
         if rule >= self.order.len() {
             return 0;
         }
-        let inner = self.order[rule];
+        let inner = number_at(self.order.as_slice(), self.places.len(), rule);
         count(
             self.entries.as_slice(),
             self.uppers.row(inner as usize),
@@ -351,13 +418,35 @@ impl Index {
     }
 }
 
-/// The place of the rule at a place of a list.
-fn place_at(rows: &RowTable, places: &[u32], number: usize, at: usize) -> Option<usize>
-    requires { All (λ s. s < length places.now) (list_at rows.now number) }
+/// The place of the rule at a place of a list, where there are so many rules.
+fn place_at(
+    rows: &RowTable,
+    places: &[u32],
+    rules: usize,
+    number: usize,
+    at: usize,
+) -> Option<usize>
+    requires within { All (λ s. s < length places.now) (list_at rows.now number) }
+    requires still { length places.now ≡ rules → IsStill places.now }
     ensures { result ≡ slice_get (map (place_in places.now) (list_at rows.now number)) at }
 {
     match rows.get(number, at) {
         None => None,
-        Some(inner) => Some(places[inner as usize] as usize),
+        Some(inner) => Some(number_at(places, rules, inner as usize) as usize),
+    }
+}
+
+/// The number at a place of `order` or of `places`, where the other of the two has so many. As long as no rule was dropped
+/// they are as long, and each number stands at its own place. Then the list is not read: a walk along the rules would miss
+/// the cache at each of these reads.
+fn number_at(numbers: &[u32], others: usize, at: usize) -> u32
+    requires within { at < length numbers.now }
+    requires still { length numbers.now ≡ others → IsStill numbers.now }
+    ensures { result ≡ get_or numbers.now at 0 }
+{
+    if numbers.len() == others {
+        at as u32
+    } else {
+        numbers[at]
     }
 }

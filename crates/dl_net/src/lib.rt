@@ -9,16 +9,20 @@ mod link;
 mod links;
 mod load;
 mod net;
-mod next;
 mod number;
 mod put;
 mod readers;
+mod ready;
 mod region;
 #[cfg(test)]
 mod region_tests;
+mod room;
 mod rows;
+mod staged;
+mod tables;
+mod take;
 
 pub use link::Link;
 pub use net::Net;
-pub use next::Ready;
+pub use ready::Ready;
 pub use region::Region;

@@ -41,7 +41,7 @@ impl Net {
     /// From how many numbers a link leads there.
     pub fn back_len(&self, link: Link, to: usize) -> usize
         ensures len { result ≡ length (back self.now link to) }
-        ensures few { result < 2 ^ 32 }
+        ensures few { result < 2 ^ 26 }
     {
         match link {
             Link::Same => 1,

@@ -1,19 +1,19 @@
 //! The indexes of a whole theory, in one pass over its rules and one over its pairs.
 
-ghost use Rattle.std.specs.Prelude.{◌≡◌, ◌≤◌, ◌<◌, ◌^◌, ◌==◌, ◌++◌, ℕ, List, [], IfOk, OnOk, All, Contains, length, map, get_or};
+ghost use Rattle.std.specs.Prelude.{◌≡◌, ◌<◌, ◌^◌, ◌==◌, ◌∷◌, ◌++◌, ℕ, List, [], Some, IfOk, OnOk, All, Contains, length, map, get_or};
 ghost use Rattle.dl_base.specs.Paths.{IsDistinct};
 ghost use Rattle.dl_theory.specs.declared.rule.Rule.{Rule};
 ghost use Rattle.dl_theory.specs.Lists.{labels};
 ghost use Rattle.dl_theory.specs.Edits.{HasBoth};
 ghost use Rattle.dl_theory.specs.Tests as test;
 ghost use Rattle.dl_net.specs.Above.{flip, lower_step, upper_step};
-ghost use Rattle.dl_net.specs.Named.{IsPaired, HasLiterals, line_in};
+ghost use Rattle.dl_net.specs.Named.{IsPaired, IsNear, Grows, HasLiterals, line_in};
 ghost use Rattle.dl_net.specs.Numbers.{no_rule};
-ghost use Rattle.dl_net.specs.Lines.{no_line};
+ghost use Rattle.dl_net.specs.Lines.{KeepsRules, no_line};
 ghost use Rattle.std.specs.List.{flat_map};
 
 use crate::index::Index;
-use crate::number::entry_of;
+use crate::number::number_rule;
 use dl_base::Memory;
 use dl_lit::Names;
 use dl_theory::{Pair, Rule, Theory};
@@ -31,41 +31,68 @@ pub(crate) fn other(number: usize) -> usize
     }
 }
 
-/// The index of a whole theory.
-pub(crate) fn index_of(alloc: Global, names: &Names, theory: &Theory) -> Result<Index, Memory>
-    requires paired { IsPaired names.now.literals }
-    requires named { All (HasLiterals names.now.literals) theory.now.rules }
-    ensures lines { IfOk result (λ index. index.lines ≡ map (line_in names.now.literals) theory.now.rules) }
+/// The index of a whole theory, whose rules' literals get numbers beside their complements where they have none.
+pub(crate) fn index_of(alloc: Global, names: &mut Names, theory: &Theory) -> Result<Index, Memory>
+    requires { IsPaired names.old.literals }
+    ensures paired { OnOk result (IsPaired names.new.literals) }
+    ensures distinct { OnOk result (IsDistinct names.new.literals) }
+    ensures grown { OnOk result (Grows (λ _. Unit {0}) names.old.literals names.new.literals) }
+    ensures there { OnOk result (All (HasLiterals names.new.literals) theory.now.rules) }
+    ensures same { OnOk result (All (HasLiterals names.old.literals) theory.now.rules → names.new ≡ names.old) }
+    ensures lines { IfOk result (λ index. index.lines ≡ map (line_in names.new.literals) theory.now.rules) }
     ensures lowers { IfOk result (λ index. index.lowers ≡ map (λ t. flat_map (λ p. lower_step theory.now p t) theory.now.pairs) theory.now.rules) }
     ensures uppers { IfOk result (λ index. index.uppers ≡ map (λ u. flat_map (λ p. upper_step theory.now p u) theory.now.pairs) theory.now.rules) }
 {
     let mut index = Index::make(alloc);
-    index.widen(names.len())?;
-    load_rules(alloc, &mut index, names, theory.rules())?;
+    load_rules(alloc, names, &mut index, theory.rules())?;
     load_pairs(&mut index, names, theory)?;
     Ok(index)
 }
 
-/// Rules by the numbers of their literals.
-pub(crate) fn load_rules(
+/// Room for a rule, whose literals and their complements get numbers.
+pub(crate) fn room_for_rule(
     alloc: Global,
+    rule: &Rule,
+    names: &mut Names,
     index: &mut Index,
-    names: &Names,
+) -> Result<(), Memory>
+    requires { IsPaired names.old.literals }
+    ensures paired { IsPaired names.new.literals }
+    ensures distinct { IsDistinct names.new.literals }
+    ensures grown { Grows (IsNear (rule.now.head ∷ rule.now.body)) names.old.literals names.new.literals }
+    ensures there { OnOk result (HasLiterals names.new.literals rule.now) }
+    ensures same { OnOk result (HasLiterals names.old.literals rule.now → names.new ≡ names.old) }
+    ensures kept { KeepsRules index.old index.new }
+    ensures ready { OnOk result (index.new.ready ≡ Some (line_in names.new.literals rule.now)) }
+{
+    let entry = number_rule(alloc, names, rule)?;
+    index.widen(names.len())?;
+    index.reserve(entry)
+}
+
+/// Rules by the numbers of their literals, which get some beside their complements where they have none.
+fn load_rules(
+    alloc: Global,
+    names: &mut Names,
+    index: &mut Index,
     rules: &[Rule],
 ) -> Result<(), Memory>
-    requires distinct { IsDistinct names.now.literals }
-    requires named { All (HasLiterals names.now.literals) rules.now }
-    requires wide { length names.now.literals ≤ index.old.width }
+    requires paired { IsPaired names.old.literals }
     requires lines { index.old.lines ≡ [] }
     requires lowers { index.old.lowers ≡ [] }
     requires uppers { index.old.uppers ≡ [] }
-    ensures lines { OnOk result (index.new.lines ≡ map (line_in names.now.literals) rules.now) }
+    ensures paired { OnOk result (IsPaired names.new.literals) }
+    ensures distinct { OnOk result (IsDistinct names.new.literals) }
+    ensures grown { OnOk result (Grows (λ _. Unit {0}) names.old.literals names.new.literals) }
+    ensures there { OnOk result (All (HasLiterals names.new.literals) rules.now) }
+    ensures same { OnOk result (All (HasLiterals names.old.literals) rules.now → names.new ≡ names.old) }
+    ensures lines { OnOk result (index.new.lines ≡ map (line_in names.new.literals) rules.now) }
     ensures lowers { OnOk result (index.new.lowers ≡ map (λ _. []) rules.now) }
     ensures uppers { OnOk result (index.new.uppers ≡ map (λ _. []) rules.now) }
 {
+    let _count = names.len();
     for rule in rules {
-        let entry = entry_of(alloc, names, rule)?;
-        index.reserve(entry)?;
+        room_for_rule(alloc, rule, names, index)?;
         index.put();
     }
     Ok(())

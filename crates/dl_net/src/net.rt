@@ -12,8 +12,8 @@ ghost use Rattle.dl_theory.specs.Listings.{Mentions};
 use crate::index::Index;
 use crate::link::Link;
 use crate::load::{index_of, other};
-use crate::next::Next;
-use crate::number::{marks_of, number_theory};
+use crate::number::mark_facts;
+use crate::staged::Staged;
 use dl_base::Memory;
 use dl_lit::{Literal, Names};
 use dl_theory::{Pair, Rule, Theory};
@@ -25,13 +25,11 @@ use std::marker::Model;
 /// A literal's number stays; literal and complement stand beside each other. A rule's number is its place in the list.
 #[derive(Drop)]
 pub struct Net {
-    pub(crate) theory: Theory,
+    pub(crate) staged: Staged,
     pub(crate) names: Names,
     /// By number, whether the literal is a fact.
     pub(crate) facts: Vec<bool>,
     pub(crate) index: Index,
-    /// What the net becomes by the edit that is prepared.
-    pub(crate) next: Option<Next>,
     pub(crate) frozen: bool,
 }
 
@@ -68,9 +66,8 @@ impl Net {
         ensures frozen { IfOk result (λ net. net.frozen ≡ false) }
     {
         let mut names = Names::make(alloc);
-        number_theory(&mut names, &theory)?;
-        let facts = marks_of(alloc, &names, theory.facts())?;
-        let index = index_of(alloc, &names, &theory)?;
+        let facts = mark_facts(alloc, &mut names, theory.facts())?;
+        let index = index_of(alloc, &mut names, &theory)?;
         Ok(Net::whole(theory, names, facts, index, false))
     }
 
@@ -98,11 +95,10 @@ impl Net {
         let _count = names.len();
         let _facts = theory.facts_len();
         Net {
-            theory,
+            staged: Staged::of(theory),
             names,
             facts,
             index,
-            next: None,
             frozen,
         }
     }
@@ -172,39 +168,39 @@ impl Net {
     pub fn facts_len(&self) -> usize
         ensures { result ≡ length self.now.theory.facts }
     {
-        self.theory.facts_len()
+        self.staged.facts_len()
     }
 
     pub fn rules_len(&self) -> usize
         ensures { result ≡ length self.now.theory.rules }
     {
-        self.theory.rules_len()
+        self.staged.rules_len()
     }
 
     pub fn pairs_len(&self) -> usize
         ensures { result ≡ length self.now.theory.pairs }
     {
-        self.theory.pairs_len()
+        self.staged.pairs_len()
     }
 
     /// The fact at a place; `None` exactly past the end.
     pub fn fact(&self, at: usize) -> Option<&Literal>
         ensures { option_copied result ≡ slice_get self.now.theory.facts at }
     {
-        self.theory.fact(at)
+        self.staged.fact(at)
     }
 
     /// The rule at a place; `None` exactly past the end.
     pub fn rule(&self, at: usize) -> Option<&Rule>
         ensures { option_copied result ≡ slice_get self.now.theory.rules at }
     {
-        self.theory.rule(at)
+        self.staged.rule(at)
     }
 
     /// The pair at a place; `None` exactly past the end.
     pub fn pair(&self, at: usize) -> Option<&Pair>
         ensures { option_copied result ≡ slice_get self.now.theory.pairs at }
     {
-        self.theory.pair(at)
+        self.staged.pair(at)
     }
 }

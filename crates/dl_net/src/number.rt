@@ -1,9 +1,8 @@
 //! Literals get numbers, each beside its complement.
 
-ghost use Rattle.std.specs.Prelude.{◌≡◌, ℕ, ◌<◌, ◌^◌, ◌∷◌, [], OnOk, IfOk, All, Some, Contains, length, map, set, true, IsTrue};
+ghost use Rattle.std.specs.Prelude.{◌≡◌, ◌<◌, ◌≤◌, ◌^◌, ◌∷◌, ◌++◌, [], List, OnOk, IfOk, All, Some, Contains, length, map};
 ghost use Rattle.dl_base.specs.Paths.{IsDistinct};
 ghost use Rattle.dl_lit.specs.declared.literal.Literal.{Literal};
-ghost use Rattle.dl_theory.specs.Listings.{Mentions};
 ghost use Rattle.dl_net.specs.Named.{IsPaired, IsNear, Grows, HasLiterals, number_in, line_in, HasFacts};
 ghost use Rattle.dl_net.specs.Counting.{each_once};
 ghost use Rattle.dl_net.specs.Lines.{line_of, once_or, once_list};
@@ -11,124 +10,95 @@ ghost use Rattle.dl_net.specs.Lines.{line_of, once_or, once_list};
 use crate::entry::Entry;
 use dl_base::Memory;
 use dl_lit::{Literal, Names};
-use dl_theory::{Rule, Theory};
+use dl_theory::{Kind, Rule};
 use indexmap::IndexSet;
+use smallvec::SmallVec;
 use std::alloc::Global;
 
-/// Whether a literal has a number.
-fn has_number(names: &Names, literal: &Literal) -> bool
-    ensures { IsTrue result → Contains names.now.literals literal.now }
-{
-    match names.find(literal) {
-        Some(_) => true,
-        None => false,
-    }
-}
+/// Bodies are shorter, so that what a node of a fill waits for is counted in few bits.
+const BODY_LIMIT: usize = 0x400_0000;
 
-/// Numbers a literal and its complement. Most are there already, and cost a look-up and no copy.
-pub(crate) fn number_literal(names: &mut Names, literal: &Literal) -> Result<(), Memory>
+/// The number of a literal, which gets one beside its complement if it has none. Most have one, and cost one look-up and no copy.
+pub(crate) fn number_literal(names: &mut Names, literal: &Literal) -> Result<u32, Memory>
     requires { IsPaired names.old.literals }
     ensures paired { IsPaired names.new.literals }
+    ensures distinct { IsDistinct names.new.literals }
     ensures grown { Grows (IsNear (literal.now ∷ [])) names.old.literals names.new.literals }
     ensures there { OnOk result (Contains names.new.literals literal.now) }
-{
-    if has_number(names, literal) {
-        return Ok(());
-    }
-    names.intern_both(literal)
-}
-
-/// Numbers literals and their complements.
-pub(crate) fn number_literals(names: &mut Names, literals: &[Literal]) -> Result<(), Memory>
-    requires { IsPaired names.old.literals }
-    ensures paired { IsPaired names.new.literals }
-    ensures grown { Grows (IsNear literals.now) names.old.literals names.new.literals }
-    ensures there { OnOk result (All (Contains names.new.literals) literals.now) }
-{
-    for literal in literals {
-        number_literal(names, literal)?;
-    }
-    Ok(())
-}
-
-/// Numbers the literals of a rule and their complements.
-pub(crate) fn number_rule(names: &mut Names, rule: &Rule) -> Result<(), Memory>
-    requires { IsPaired names.old.literals }
-    ensures paired { IsPaired names.new.literals }
-    ensures grown { Grows (IsNear (rule.now.head ∷ rule.now.body)) names.old.literals names.new.literals }
-    ensures there { OnOk result (HasLiterals names.new.literals rule.now) }
-{
-    number_literal(names, &rule.head)?;
-    number_literals(names, rule.body.as_slice())
-}
-
-/// Numbers the literals of rules and their complements.
-pub(crate) fn number_rules(names: &mut Names, rules: &[Rule]) -> Result<(), Memory>
-    requires { IsPaired names.old.literals }
-    ensures paired { IsPaired names.new.literals }
-    ensures kept { (q : Literal) → Contains names.old.literals q → Contains names.new.literals q }
-    ensures there { OnOk result (All (HasLiterals names.new.literals) rules.now) }
-{
-    for rule in rules {
-        number_rule(names, rule)?;
-    }
-    Ok(())
-}
-
-/// Numbers the literals of a theory and their complements.
-pub(crate) fn number_theory(names: &mut Names, theory: &Theory) -> Result<(), Memory>
-    requires { IsPaired names.old.literals }
-    ensures paired { IsPaired names.new.literals }
-    ensures facts { OnOk result (All (Contains names.new.literals) theory.now.facts) }
-    ensures rules { OnOk result (All (HasLiterals names.new.literals) theory.now.rules) }
-{
-    number_literals(names, theory.facts())?;
-    number_rules(names, theory.rules())
-}
-
-/// The number of a literal that has one.
-pub(crate) fn number_of(names: &Names, literal: &Literal) -> Result<u32, Memory>
-    requires { Contains names.now.literals literal.now }
-    ensures { IfOk result (λ n. n ≡ number_in names.now.literals literal.now) }
+    ensures number { IfOk result (λ n. n ≡ number_in names.new.literals literal.now) }
+    ensures same { OnOk result (Contains names.old.literals literal.now → names.new ≡ names.old) }
 {
     match names.find(literal) {
-        None => unreachable!(),
-        Some(number) => {
-            if number > u32::MAX as usize {
-                return Err(Memory);
-            }
-            Ok(number as u32)
+        Some(number) => narrow(number),
+        None => {
+            let number = names.len();
+            names.intern_both(literal)?;
+            narrow(number)
         }
     }
 }
 
-/// The numbers of literals that have some.
-fn numbers_of(alloc: Global, names: &Names, literals: &[Literal]) -> Result<Vec<u32>, Memory>
-    requires { All (Contains names.now.literals) literals.now }
-    ensures { IfOk result (λ v. v.items ≡ map (number_in names.now.literals) literals.now) }
+/// The number in half the space; want of memory where it is too large for that.
+fn narrow(number: usize) -> Result<u32, Memory>
+    ensures { IfOk result (λ n. n ≡ number) }
 {
-    let mut numbers = Vec::new(alloc);
+    if number > u32::MAX as usize {
+        return Err(Memory);
+    }
+    Ok(number as u32)
+}
+
+/// The numbers of literals, which get some beside their complements where they have none.
+fn number_literals(
+    alloc: Global,
+    names: &mut Names,
+    literals: &[Literal],
+) -> Result<SmallVec<u32, 4>, Memory>
+    requires paired { IsPaired names.old.literals }
+    requires distinct { IsDistinct names.old.literals }
+    ensures paired { IsPaired names.new.literals }
+    ensures distinct { IsDistinct names.new.literals }
+    ensures grown { Grows (IsNear literals.now) names.old.literals names.new.literals }
+    ensures there { OnOk result (All (Contains names.new.literals) literals.now) }
+    ensures numbers { IfOk result (λ v. v.items ≡ map (number_in names.new.literals) literals.now) }
+    ensures same { OnOk result (All (Contains names.old.literals) literals.now → names.new ≡ names.old) }
+{
+    let mut numbers = SmallVec::new(alloc);
     for literal in literals {
-        numbers.push(number_of(names, literal)?)?;
+        numbers.push(number_literal(names, literal)?)?;
     }
     Ok(numbers)
 }
 
-/// A rule by the numbers of its literals.
-pub(crate) fn entry_of(alloc: Global, names: &Names, rule: &Rule) -> Result<Entry, Memory>
-    requires { HasLiterals names.now.literals rule.now }
-    ensures line { IfOk result (λ e. line_of (Some e) ≡ line_in names.now.literals rule.now) }
+/// A rule by the numbers of its literals, which get some beside their complements where they have none.
+pub(crate) fn number_rule(alloc: Global, names: &mut Names, rule: &Rule) -> Result<Entry, Memory>
+    requires { IsPaired names.old.literals }
+    ensures paired { IsPaired names.new.literals }
+    ensures distinct { IsDistinct names.new.literals }
+    ensures grown { Grows (IsNear (rule.now.head ∷ rule.now.body)) names.old.literals names.new.literals }
+    ensures there { OnOk result (HasLiterals names.new.literals rule.now) }
+    ensures line { IfOk result (λ e. line_of (Some e) ≡ line_in names.new.literals rule.now) }
     ensures once { IfOk result (λ e. once_list e ≡ each_once e.body.items) }
-    ensures short { IfOk result (λ e. length e.body.items < 2 ^ 32) }
+    ensures short { IfOk result (λ e. length e.body.items < 2 ^ 26) }
+    ensures same { OnOk result (HasLiterals names.old.literals rule.now → names.new ≡ names.old) }
 {
-    let head = number_of(names, &rule.head)?;
-    let body = numbers_of(alloc, names, rule.body.as_slice())?;
-    if body.len() > u32::MAX as usize {
+    let head = number_literal(names, &rule.head)?;
+    let body = number_literals(alloc, names, rule.body.as_slice())?;
+    entry_of(alloc, rule.kind, head, body)
+}
+
+/// A rule of these numbers.
+fn entry_of(alloc: Global, kind: Kind, head: u32, body: SmallVec<u32, 4>) -> Result<Entry, Memory>
+    ensures line { IfOk result (λ e. line_of (Some e) ≡ record { kind = kind; head = head; body = body.items }) }
+    ensures once { IfOk result (λ e. once_list e ≡ each_once e.body.items) }
+    ensures short { IfOk result (λ e. length e.body.items < 2 ^ 26) }
+{
+    if body.len() >= BODY_LIMIT {
         return Err(Memory);
     }
     let once = once_of(alloc, body.as_slice())?;
     Ok(Entry {
-        kind: rule.kind,
+        kind,
         head,
         body,
         once,
@@ -177,27 +147,59 @@ fn firsts(alloc: Global, numbers: &[u32]) -> Result<Vec<u32>, Memory>
     Ok(once)
 }
 
-/// By number, whether the literal is a fact.
-pub(crate) fn marks_of(alloc: Global, names: &Names, facts: &[Literal]) -> Result<Vec<bool>, Memory>
-    requires { All (Contains names.now.literals) facts.now }
-    ensures { IfOk result (λ marks. HasFacts names.now.literals facts.now marks.items) }
+/// The number of a fact, which gets one beside its complement if it has none, and a mark that is not set.
+pub(crate) fn number_fact(
+    names: &mut Names,
+    marks: &mut Vec<bool>,
+    fact: &Literal,
+) -> Result<u32, Memory>
+    requires { IsPaired names.old.literals }
+    ensures paired { IsPaired names.new.literals }
+    ensures distinct { IsDistinct names.new.literals }
+    ensures grown { Grows (IsNear (fact.now ∷ [])) names.old.literals names.new.literals }
+    ensures there { OnOk result (Contains names.new.literals fact.now) }
+    ensures number { IfOk result (λ n. n ≡ number_in names.new.literals fact.now) }
+    ensures same { OnOk result (Contains names.old.literals fact.now → names.new ≡ names.old) }
+    ensures kept { (qs : List Literal) → HasFacts names.new.literals qs marks.old.items → HasFacts names.new.literals qs marks.new.items }
+    ensures room { OnOk result (length names.new.literals ≤ length marks.new.items) }
 {
-    let mut marks = vec![in alloc; false; names.len()]?;
-    for fact in facts {
-        mark(&mut marks, names, fact);
+    let number = number_literal(names, fact)?;
+    if marks.len() < names.len() {
+        marks.resize(names.len(), false)?;
     }
-    Ok(marks)
+    Ok(number)
 }
 
-/// Marks one more fact.
-fn mark(marks: &mut Vec<bool>, names: &Names, fact: &Literal)
-    requires there { Contains names.now.literals fact.now }
-    requires wide { length names.now.literals ≡ length marks.old.items }
-    ensures marks { marks.new.items ≡ set marks.old.items (number_in names.now.literals fact.now) true }
-    ensures within { number_in names.now.literals fact.now < length names.now.literals }
+/// Marks one more fact, by its number.
+fn mark_fact(names: &mut Names, marks: &mut Vec<bool>, fact: &Literal) -> Result<(), Memory>
+    requires { IsPaired names.old.literals }
+    ensures paired { OnOk result (IsPaired names.new.literals) }
+    ensures distinct { OnOk result (IsDistinct names.new.literals) }
+    ensures grown { OnOk result (Grows (IsNear (fact.now ∷ [])) names.old.literals names.new.literals) }
+    ensures there { OnOk result (Contains names.new.literals fact.now) }
+    ensures same { OnOk result (Contains names.old.literals fact.now → names.new ≡ names.old) }
+    ensures marks { OnOk result ((qs : List Literal) → HasFacts names.new.literals qs marks.old.items → HasFacts names.new.literals (qs ++ fact.now ∷ []) marks.new.items) }
 {
-    match names.find(fact) {
-        None => unreachable!(),
-        Some(number) => marks[number] = true,
+    let number = number_fact(names, marks, fact)?;
+    marks[number as usize] = true;
+    Ok(())
+}
+
+/// By number, whether the literal is a fact. Facts get numbers beside their complements where they have none.
+pub(crate) fn mark_facts(
+    alloc: Global,
+    names: &mut Names,
+    facts: &[Literal],
+) -> Result<Vec<bool>, Memory>
+    requires { IsPaired names.old.literals }
+    ensures paired { OnOk result (IsPaired names.new.literals) }
+    ensures there { OnOk result (All (Contains names.new.literals) facts.now) }
+    ensures same { OnOk result (All (Contains names.old.literals) facts.now → names.new ≡ names.old) }
+    ensures marks { IfOk result (λ marks. HasFacts names.new.literals facts.now marks.items) }
+{
+    let mut marks = Vec::new(alloc);
+    for fact in facts {
+        mark_fact(names, &mut marks, fact)?;
     }
+    Ok(marks)
 }

@@ -70,7 +70,7 @@ impl Net {
     fn is_above(&self, upper: &Name, lower: &Name) -> bool
         ensures { IsTrue result ↔ IsAbove self.now.theory.pairs upper.now lower.now }
     {
-        self.theory.is_above(upper, lower)
+        self.staged.is_above(upper, lower)
     }
 
     /// Whether the literal with this number is one of the theory: it or its complement is a fact, a head or in a body.
@@ -111,7 +111,7 @@ impl Net {
 
     pub(crate) fn heads_len(&self, number: usize) -> usize
         ensures value { result ≡ length (places (head_row self.now) self.now.theory.rules number) }
-        ensures few { result < 2 ^ 32 }
+        ensures few { result < 2 ^ 26 }
     {
         self.index.heads_len(number)
     }
@@ -166,7 +166,7 @@ impl Net {
 
     pub(crate) fn body_width(&self, rule: usize) -> usize
         ensures width { result ≡ length (row (body_row self.now) self.now.theory.rules rule) }
-        ensures few { result < 2 ^ 32 }
+        ensures few { result < 2 ^ 26 }
     {
         self.index.width(rule)
     }
@@ -174,7 +174,7 @@ impl Net {
     /// How many rules with this head are strict, or else can support it.
     pub(crate) fn concluders_len(&self, number: usize, strict: bool) -> usize
         ensures value { result ≡ length (places (concluded_row self.now strict) self.now.theory.rules number) }
-        ensures few { result < 2 ^ 32 }
+        ensures few { result < 2 ^ 26 }
     {
         self.index.heads_count(number, strict)
     }
@@ -182,7 +182,7 @@ impl Net {
     /// How many rules have a head that attacks the literal.
     pub(crate) fn opposers_len(&self, number: usize) -> usize
         ensures value { result ≡ length (places (opposes_row self.now) self.now.theory.rules number) }
-        ensures few { result < 2 ^ 32 }
+        ensures few { result < 2 ^ 26 }
     {
         if number >= self.names() {
             return 0;
@@ -192,7 +192,7 @@ impl Net {
 
     pub(crate) fn upper_len(&self, rule: usize) -> usize
         ensures value { result ≡ length (row (uppers_row self.now (λ _. true)) self.now.theory.rules rule) }
-        ensures few { result < 2 ^ 32 }
+        ensures few { result < 2 ^ 26 }
     {
         self.index.upper_len(rule)
     }
@@ -200,7 +200,7 @@ impl Net {
     /// How many rules defend their heads against this one.
     pub(crate) fn defenders_len(&self, rule: usize) -> usize
         ensures value { result ≡ length (row (uppers_row self.now (λ t. can_support t.kind)) self.now.theory.rules rule) }
-        ensures few { result < 2 ^ 32 }
+        ensures few { result < 2 ^ 26 }
     {
         self.index.upper_count(rule)
     }

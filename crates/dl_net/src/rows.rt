@@ -1,16 +1,17 @@
 //! Lists of numbers by number.
 
-ghost use Rattle.std.specs.Prelude.{◌≡◌, ℕ, ◌+◌, ◌-◌, ◌<◌, ◌≤◌, ◌≢◌, [], ◌∷◌, ◌++◌, OnOk, OnErr, length, not, ◌==◌, filter, slice_get, set};
-ghost use Rattle.dl_net.specs.Tables.{no_table, list_at, spare_at, KeepsLists, ends_with};
+ghost use Rattle.std.specs.Prelude.{◌≡◌, ℕ, ◌+◌, ◌-◌, ◌<◌, ◌≤◌, ◌≢◌, [], ◌∷◌, ◌++◌, OnOk, OnErr, length, slice_get, set};
+ghost use Rattle.dl_net.specs.Tables.{no_table, list_at, spare_at, drop_item, KeepsLists, ends_with};
 
 use dl_base::Memory;
+use smallvec::SmallVec;
 use std::alloc::Global;
 use std::marker::Model;
 
-/// A list of numbers at each number.
+/// A list of numbers at each number. Most lists are short, and those of up to four numbers stand in the table itself.
 #[derive(Drop)]
 pub(crate) struct RowTable {
-    rows: Vec<Vec<u32>>,
+    rows: Vec<SmallVec<u32, 4>>,
 }
 
 impl Model for RowTable {
@@ -38,7 +39,7 @@ impl RowTable {
         ensures grown { OnOk result (length self.new.lists ≡ length self.old.lists + 1) }
         ensures err { OnErr result (self.new ≡ self.old) }
     {
-        let row = Vec::new(*self.rows.allocator());
+        let row = SmallVec::new(*self.rows.allocator());
         self.rows.push(row)?;
         Ok(())
     }
@@ -68,10 +69,19 @@ impl RowTable {
     /// Takes a number out of a list.
     pub fn remove(&mut self, number: usize, item: u32)
         requires { number < length self.old.lists }
-        ensures lists { self.new.lists ≡ set self.old.lists number (filter (λ x. not (x == item)) (list_at self.old number)) }
+        ensures lists { self.new.lists ≡ set self.old.lists number (drop_item item (list_at self.old number)) }
     {
         let row = &mut self.rows[number];
         row.retain(|x| *x != item);
+    }
+
+    /// Empties a list.
+    pub fn clear(&mut self, number: usize)
+        requires { number < length self.old.lists }
+        ensures { self.new.lists ≡ set self.old.lists number [] }
+    {
+        let row = &mut self.rows[number];
+        row.clear();
     }
 
     pub fn len(&self) -> usize

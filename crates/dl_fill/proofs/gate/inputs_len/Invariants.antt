@@ -6,5 +6,5 @@ use Rattle.dl_fill.proofs.gate.inputs_len.Given as goal
 abbrev pub invariant-loop-w : goal.invariant-loop-w
 invariant-loop-w l = record {
   len : l.len ≡ length (inputs_at l.net (is_inside l.region.members) l.width (take l.w-index l.wires) l.kind l.place);
-  few : l.len + l.w-index ≤ l.w-index * 2 ^ 32;
+  few : l.len + l.w-index ≤ l.w-index * 2 ^ 26;
 }

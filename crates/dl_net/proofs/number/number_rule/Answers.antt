@@ -1,31 +1,61 @@
-use Rattle.std.proofs.Common.{[], ◌∷◌, List, Result, Ok, Err, subst}
-use Rattle.std.specs.Prelude.{All, Contains, OnOk}
+use Rattle.std.proofs.Common.{◌≡◌, [], ◌∷◌, List, map, Some, sym, subst, ◌∙◌}
+use Rattle.std.specs.Prelude.{All, Contains}
+use Rattle.std.proofs.lemmas.Result.{IfOk-weaker}
 use Rattle.dl_lit.specs.declared.literal.Literal.{Literal}
-use Rattle.dl_net.specs.Named.{IsNear}
-use Rattle.dl_net.proofs.NameLemmas.{Grows-trans, Grows-weaker, Grows-keeps, near_head, near_tail}
+use Rattle.dl_lit.specs.Names.{Numbering}
+use Rattle.dl_net.specs.Lines.{line_of}
+use Rattle.dl_net.specs.Named.{IsNear, HasLiterals, Grows, number_in, line_in}
+use Rattle.dl_net.proofs.NameLemmas.{Grows-trans, Grows-weaker, Grows-keeps, near_head, near_tail, ok_from}
+use Rattle.dl_net.proofs.NetLemmas.{number_kept}
 use Rattle.dl_net.proofs.number.number_rule.Goals as goal
 
-pub returns-in_err-number_literal-clause-grown : goal.returns-in_err-number_literal-clause-grown
-returns-in_err-number_literal-clause-grown c =
+grown_by : (q : Literal) (body xs a b c : List Literal) → xs ≡ body → Grows (IsNear (q ∷ [])) a b → Grows (IsNear xs) b c → Grows (IsNear (q ∷ body)) a c
+grown_by q body xs a b c is g h =
+    Grows-trans (IsNear (q ∷ body)) a b c (Grows-weaker (IsNear (q ∷ [])) (IsNear (q ∷ body)) a b (λ r k. near_head q body r k) g)
+    (Grows-weaker (IsNear xs) (IsNear (q ∷ body)) b c (λ r k. near_tail q body r (subst (λ (ys : List Literal). IsNear ys r) is k)) h)
+
+pub returns-in_err-head-clause-grown : goal.returns-in_err-head-clause-grown
+returns-in_err-head-clause-grown c =
     Grows-weaker (IsNear (c.args.rule.now.head ∷ [])) (IsNear (c.args.rule.now.head ∷ c.args.rule.now.body)) c.args.names.now.literals c.number_literal.new.names.literals
     (λ r h. near_head c.args.rule.now.head c.args.rule.now.body r h) c.number_literal.ensures.grown
 
+pub returns-in_err-body-clause-grown : goal.returns-in_err-body-clause-grown
+returns-in_err-body-clause-grown c =
+    grown_by c.args.rule.now.head c.args.rule.now.body c.as_slice.result.now c.args.names.now.literals c.number_literal.new.names.literals
+    c.number_literals.new.names.literals c.as_slice.ensures c.number_literal.ensures.grown c.number_literals.ensures.grown
+
 pub returns-clause-grown : goal.returns-clause-grown
 returns-clause-grown c =
-    let q : Literal = c.args.rule.now.head in
-    let body : List Literal = c.args.rule.now.body in
-    Grows-trans (IsNear (q ∷ body)) c.args.names.now.literals c.number_literal.new.names.literals c.number_literals.new.names.literals
-    (Grows-weaker (IsNear (q ∷ [])) (IsNear (q ∷ body)) c.args.names.now.literals c.number_literal.new.names.literals (λ r h. near_head q body r h) c.number_literal.ensures.grown)
-    (Grows-weaker (IsNear c.as_slice.result.now) (IsNear (q ∷ body)) c.number_literal.new.names.literals c.number_literals.new.names.literals
-    (λ r h. near_tail q body r (subst (λ (xs : List Literal). IsNear xs r) c.as_slice.ensures h)) c.number_literals.ensures.grown)
-
-both : {E : Type 0} (r : Result (Unit {0}) E) (A B : Type 0) → A → OnOk r B → OnOk r (A × B)
-both (Ok u) A B a b = (a, b)
-both (Err e) A B a b = tt
+    grown_by c.args.rule.now.head c.args.rule.now.body c.as_slice.result.now c.args.names.now.literals c.number_literal.new.names.literals
+    c.number_literals.new.names.literals c.as_slice.ensures c.number_literal.ensures.grown c.number_literals.ensures.grown
 
 pub returns-clause-there : goal.returns-clause-there
 returns-clause-there c =
     let new : List Literal = c.number_literals.new.names.literals in
-    both c.number_literals.result (Contains new c.args.rule.now.head) (All (Contains new) c.args.rule.now.body)
-    (Grows-keeps (IsNear c.as_slice.result.now) c.number_literal.new.names.literals new c.args.rule.now.head c.number_literals.ensures.grown c.in_ok-number_literal.ensures.there)
-    (subst (λ (xs : List Literal). OnOk c.number_literals.result (All (Contains new) xs)) c.as_slice.ensures c.number_literals.ensures.there)
+    ok_from c.entry_of.result (HasLiterals new c.args.rule.now) (
+      Grows-keeps (IsNear c.as_slice.result.now) c.number_literal.new.names.literals new c.args.rule.now.head c.number_literals.ensures.grown c.in_ok-head.ensures.there,
+      subst (λ (xs : List Literal). All (Contains new) xs) c.as_slice.ensures c.in_ok-body.ensures.there,
+    )
+
+pub returns-clause-line : goal.returns-clause-line
+returns-clause-line c =
+    let mid : List Literal = c.number_literal.new.names.literals in
+    let new : List Literal = c.number_literals.new.names.literals in
+    let head : c.in_ok-head.head ≡ number_in new c.args.rule.now.head =
+    c.in_ok-head.ensures.number
+    ∙ number_kept mid new c.number_literals.ensures.distinct (IsNear c.as_slice.result.now) c.number_literals.ensures.grown c.args.rule.now.head c.in_ok-head.ensures.there in
+    let body : c.in_ok-body.body.items ≡ map (number_in new) c.args.rule.now.body =
+    subst (λ (xs : List Literal). c.in_ok-body.body.items ≡ map (number_in new) xs) c.as_slice.ensures c.in_ok-body.ensures.numbers in
+    IfOk-weaker c.entry_of.result (λ e. line_of (Some e) ≡ record { kind = c.args.rule.now.kind; head = c.in_ok-head.head; body = c.in_ok-body.body.items })
+    (λ e. line_of (Some e) ≡ line_in new c.args.rule.now)
+    (λ e is. is ∙ (λ i. record { kind = c.args.rule.now.kind; head = head i; body = body i })) c.entry_of.ensures.line
+
+pub returns-clause-same : goal.returns-clause-same
+returns-clause-same c =
+    ok_from c.entry_of.result (HasLiterals c.args.names.now.literals c.args.rule.now → c.number_literals.new.names ≡ c.args.names.now)
+    (λ h.
+    let first : c.number_literal.new.names ≡ c.args.names.now = c.in_ok-head.ensures.same h.0 in
+    c.in_ok-body.ensures.same
+    (subst (λ (n : Numbering). All (Contains n.literals) c.as_slice.result.now) (sym first)
+    (subst (λ (xs : List Literal). All (Contains c.args.names.now.literals) xs) (sym c.as_slice.ensures) h.1))
+    ∙ first)

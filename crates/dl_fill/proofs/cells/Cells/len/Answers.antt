@@ -1,14 +1,8 @@
 use Rattle.std.proofs.Common.{length, ap, arith}
-use Rattle.dl_fill.specs.Cells.{CellLists}
-use Rattle.dl_fill.proofs.Packed.{length-numbers}
+use Rattle.std.proofs.Math.ListN.{length-map}
+use Rattle.dl_fill.specs.Cells.{CellLists, number_of}
 use Rattle.dl_fill.proofs.cells.Cells.len.Goals as goal
 
 pub returns-clause-numbers : goal.returns-clause-numbers
 returns-clause-numbers c =
-    omega (
-      arith,
-      c.len.ensures,
-      c.self.inside.bytes.ok,
-      length-numbers c.self.inside.bytes.items c.self.inside.words.items,
-      ap (λ (v : CellLists). length v.numbers) c.self.view_is,
-    )
+    omega (arith, c.len.ensures, length-map c.self.inside.words.items number_of, ap (λ (v : CellLists). length v.numbers) c.self.view_is)

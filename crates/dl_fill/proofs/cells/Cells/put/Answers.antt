@@ -1,21 +1,20 @@
-use Rattle.std.proofs.Common.{◌≡◌, ◌<◌, ◌+◌, ◌*◌, ◌^◌, ◌%◌, ◌∙◌, ℕ, length, get_or, set, ap, arith}
-use Rattle.std.proofs.lemmas.List.{get_or_default}
+use Rattle.std.proofs.Common.{◌≡◌, ◌<◌, ◌∙◌, ℕ, length, get_or, set, ap, arith}
+use Rattle.std.proofs.Math.ListN.{length-map}
+use Rattle.std.proofs.Math.Seq.{map-set_same}
+use Rattle.std.proofs.lemmas.List.{get_or_default, map-set}
 use Rattle.dl_fill.specs.Cells.{CellLists, flag_of, number_of, numbers_of}
-use Rattle.dl_fill.proofs.Packed.{length-flags, flags_kept, numbers-set, as_cells}
+use Rattle.dl_fill.proofs.Packed.{as_cells}
 use Rattle.dl_fill.proofs.cells.Cells.put.Goals as goal
 
 pub returns : goal.returns
 returns c =
-    let lt : c.args.place < length c.self.inside.bytes.items =
-    omega (arith, c.requires.place, length-flags c.self.inside.bytes.items, ap (λ (v : CellLists). length v.flags) c.self.view_is) in
-    let byte : c.index.result.now ≡ get_or c.self.inside.bytes.items c.args.place 0 =
-    c.index.ensures ∙ get_or_default c.self.inside.bytes.items c.args.place c.index.result.now 0 lt in
-    let whole : number_of c.byte.result (c.args.number % 4294967296) ≡ c.args.number =
-    ap (λ (b : ℕ). b * 2 ^ 32 + c.args.number % 4294967296) c.byte.ensures.bits ∙ omega arith in
+    let lt : c.args.place < length c.self.inside.words.items =
+    omega (arith, c.requires.place, length-map c.self.inside.words.items flag_of, ap (λ (v : CellLists). length v.flags) c.self.view_is) in
+    let word : c.index.result.now ≡ get_or c.self.inside.words.items c.args.place 0 =
+    c.index.ensures ∙ get_or_default c.self.inside.words.items c.args.place c.index.result.now 0 lt in
     as_cells _ _ _ _
-    (flags_kept c.self.inside.bytes.items c.args.place c.byte.result
-    (c.byte.ensures.flag ∙ c.flag.ensures ∙ ap flag_of byte)
+    (map-set_same flag_of c.self.inside.words.items c.args.place c.word.result 0 (c.word.ensures.flag ∙ c.flag.ensures ∙ ap flag_of word)
     ∙ ap (λ (v : CellLists). v.flags) c.self.view_is)
-    (numbers-set c.self.inside.bytes.items c.self.inside.words.items c.args.place c.byte.result (c.args.number % 4294967296) c.self.invariant
-    ∙ ap (λ (n : ℕ). set (numbers_of c.self.inside.bytes.items c.self.inside.words.items) c.args.place n) whole
+    (map-set number_of c.self.inside.words.items c.args.place c.word.result
+    ∙ ap (λ (n : ℕ). set (numbers_of c.self.inside.words.items) c.args.place n) c.word.ensures.number
     ∙ ap (λ (v : CellLists). set v.numbers c.args.place c.args.number) c.self.view_is)

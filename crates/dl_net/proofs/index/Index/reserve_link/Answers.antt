@@ -1,12 +1,22 @@
 use Rattle.std.proofs.Common.{◌≡◌, ℕ, ◌<◌, Some, List, length, sym, ap, subst, ◌∙◌, arith, refl}
 use Rattle.std.proofs.Math.ListN.{length-map}
-use Rattle.std.proofs.lemmas.List.{get_or_default}
 use Rattle.dl_net.specs.Lines.{IndexLists, KeepsRules}
 use Rattle.dl_net.specs.Indexes.{line_at, place_in}
 use Rattle.dl_net.specs.KeptIndex.{index_of}
 use Rattle.dl_net.specs.declared.entry.Room.TheVariants.{Nothing}
 use Rattle.dl_net.proofs.RuleLemmas.{HasLinks-more, KeepsLists-refl, by_place-kept}
+use Rattle.dl_net.proofs.OrderLemmas.{order_still, read_at, read_member}
 use Rattle.dl_net.proofs.index.Index.reserve_link.Goals as goal
+
+pub number_at-upper-requires-clause-still : goal.number_at-upper-requires-clause-still
+number_at-upper-requires-clause-still c =
+    order_still c.self.inside.entries.items c.self.inside.order.items c.self.inside.places.items c.self.inside.heads c.self.inside.uses c.self.invariant.rules
+    c.as_slice.result.now c.len.result c.as_slice.ensures.value (omega (arith, c.len.ensures))
+
+pub number_at-lower-requires-clause-still : goal.number_at-lower-requires-clause-still
+number_at-lower-requires-clause-still c =
+    order_still c.self.inside.entries.items c.self.inside.order.items c.self.inside.places.items c.self.inside.heads c.self.inside.uses c.self.invariant.rules
+    c.as_slice-2.result.now c.len-2.result c.as_slice-2.ensures.value (omega (arith, c.len-2.ensures))
 
 pub invariant_of-self : goal.invariant_of-self
 invariant_of-self c = record {
@@ -57,8 +67,8 @@ invariant_of-self-2 c =
           c.self.invariant.links (λ s m. m) (omega arith) (omega (arith, c.self.invariant.links.lower_wide, c.reserve.ensures.kept.wide))
           (omega (arith, c.self.invariant.links.upper_wide, c.reserve-2.ensures.kept.wide));
       room = record {
-        upper = (c.args.upper, omega (arith, len, c.requires.upper), sym c.index-upper.ensures);
-        lower = (c.args.lower, omega (arith, len, c.requires.lower), sym c.index-lower.ensures);
+        upper = read_member c.self.inside.order.items c.as_slice.result.now c.args.upper c.number_at-upper.result c.as_slice.ensures.value c.number_at-upper.ensures (omega (arith, len, c.requires.upper));
+        lower = read_member c.self.inside.order.items c.as_slice-2.result.now c.args.lower c.number_at-lower.result c.as_slice-2.ensures.value c.number_at-lower.ensures (omega (arith, len, c.requires.lower));
         lowers_room = c.in_ok-reserve.ensures.room;
         uppers_room = c.in_ok-reserve-2.ensures.room;
       };
@@ -72,8 +82,8 @@ returns-clause-linking c =
     sym (length-map order (line_at c.self.inside.entries.items)) ∙ ap (λ (v : IndexLists). length v.lines) c.self.view_is in
     let upper : c.args.upper < length order = omega (arith, len, c.requires.upper) in
     let lower : c.args.lower < length order = omega (arith, len, c.requires.lower) in
-    let u : place_in places c.index-upper.result.now ≡ c.args.upper =
-    ap (place_in places) (c.index-upper.ensures ∙ get_or_default order c.args.upper c.index-upper.result.now 0 upper) ∙ c.self.invariant.rules.placed c.args.upper upper in
-    let l : place_in places c.index-lower.result.now ≡ c.args.lower =
-    ap (place_in places) (c.index-lower.ensures ∙ get_or_default order c.args.lower c.index-lower.result.now 0 lower) ∙ c.self.invariant.rules.placed c.args.lower lower in
+    let u : place_in places c.number_at-upper.result ≡ c.args.upper =
+    ap (place_in places) (sym (read_at order c.as_slice.result.now c.args.upper c.number_at-upper.result c.as_slice.ensures.value c.number_at-upper.ensures)) ∙ c.self.invariant.rules.placed c.args.upper upper in
+    let l : place_in places c.number_at-lower.result ≡ c.args.lower =
+    ap (place_in places) (sym (read_at order c.as_slice-2.result.now c.args.lower c.number_at-lower.result c.as_slice-2.ensures.value c.number_at-lower.ensures)) ∙ c.self.invariant.rules.placed c.args.lower lower in
     λ i. Some (record { upper = u i; lower = l i })

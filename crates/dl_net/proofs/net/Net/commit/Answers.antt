@@ -1,26 +1,33 @@
-use Rattle.std.proofs.Common.{◌≡◌, Option, ap, subst, ◌∙◌}
+use Rattle.std.proofs.Common.{◌≡◌, false, None, Option, Some, ap, subst, ◌∙◌}
+use Rattle.std.specs.Prelude.{IfSome}
+use Rattle.dl_theory.specs.declared.edit.Edit.{Edit}
 use Rattle.dl_theory.specs.Edits.{after_edit}
-use Rattle.dl_net.specs.declared.next.Next.{Next}
 use Rattle.dl_net.specs.Numbers.{NetLists}
-use Rattle.dl_net.specs.KeptNet.{net_of, HasNext, HasEdit}
-use Rattle.dl_net.proofs.KeptLemmas.{kept_made, next_there, next_edit}
+use Rattle.dl_net.specs.KeptNet.{net_of, theory_of, pending_of}
+use Rattle.dl_net.proofs.KeptLemmas.{kept_made, pending_is, tables_like}
 use Rattle.dl_net.proofs.net.Net.commit.Goals as goal
 
-pub taken-next-requires : goal.taken-next-requires
-taken-next-requires c = next_there c.self.inside.next c.args.ready.edit (ap (λ (v : NetLists). v.pending) c.self.view_is ∙ c.requires)
+pub change_tables-requires-clause-accepted : goal.change_tables-requires-clause-accepted
+change_tables-requires-clause-accepted c =
+    (pending_is c.self.inside c.self.invariant c.args.ready.edit (ap (λ (v : NetLists). v.pending) c.self.view_is ∙ c.requires)).0
+
+pub change_tables-requires-clause-room : goal.change_tables-requires-clause-room
+change_tables-requires-clause-room c =
+    (pending_is c.self.inside c.self.invariant c.args.ready.edit (ap (λ (v : NetLists). v.pending) c.self.view_is ∙ c.requires)).1
+
+pub change_tables-requires-clause-tables : goal.change_tables-requires-clause-tables
+change_tables-requires-clause-tables c = tables_like (net_of c.self.inside) None false c.self.inside.facts.items c.self.inside.index c.self.invariant.tables
 
 pub invariant_of-self : goal.invariant_of-self
 invariant_of-self c =
-    let k : HasEdit (net_of c.self.inside) c.taken-next.result =
-    subst (λ (o : Option Next). HasNext (net_of c.self.inside) o) c.taken-next.ensures.was c.self.invariant.next in
-    kept_made c.self.inside c.self.invariant c.taken-next.result k c.put_in_place.new.theory c.put_in_place.new.facts c.put_in_place.new.index c.taken-next.new.next
-    c.put_in_place.ensures.theory c.put_in_place.ensures.facts c.put_in_place.ensures.index c.taken-next.ensures.none
+    let is : pending_of c.self.inside ≡ Some c.args.ready.edit = ap (λ (v : NetLists). v.pending) c.self.view_is ∙ c.requires in
+    kept_made c.self.inside c.self.invariant c.args.ready.edit c.make.new.self c.change_tables.new.facts c.change_tables.new.index
+    (pending_is c.self.inside c.self.invariant c.args.ready.edit is).0
+    (subst (λ (o : Option Edit). IfSome o (λ e. c.make.new.self.theory ≡ after_edit (theory_of c.self.inside) e)) is c.make.ensures.theory)
+    c.make.ensures.pending c.change_tables.ensures
 
 pub returns-clause-theory : goal.returns-clause-theory
 returns-clause-theory c =
-    let k : HasEdit (net_of c.self.inside) c.taken-next.result =
-    subst (λ (o : Option Next). HasNext (net_of c.self.inside) o) c.taken-next.ensures.was c.self.invariant.next in
-    let e : c.taken-next.result.edit ≡ c.args.ready.edit =
-    next_edit c.self.inside.next c.taken-next.result c.args.ready.edit c.taken-next.ensures.was (ap (λ (v : NetLists). v.pending) c.self.view_is ∙ c.requires) in
-    subst (λ (v : NetLists). c.put_in_place.new.theory ≡ after_edit v.theory c.args.ready.edit) c.self.view_is
-    (c.put_in_place.ensures.theory ∙ k.changed ∙ ap (after_edit c.self.inside.theory) e)
+    let is : pending_of c.self.inside ≡ Some c.args.ready.edit = ap (λ (v : NetLists). v.pending) c.self.view_is ∙ c.requires in
+    subst (λ (v : NetLists). c.make.new.self.theory ≡ after_edit v.theory c.args.ready.edit) c.self.view_is
+    (subst (λ (o : Option Edit). IfSome o (λ e. c.make.new.self.theory ≡ after_edit (theory_of c.self.inside) e)) is c.make.ensures.theory)
