@@ -12,11 +12,11 @@ ghost use Rattle.ddl.specs.Replies.{usage_line, reply_text};
 use crate::check::Checked;
 use crate::refusal::Refusal;
 use crate::reply::Reply;
-use dl_edition::Conclusion;
+use dl_edition::Concluded;
 use dl_io::{Failed, Sink, write_all};
-use dl_lit::Family;
+use dl_lit::{Family, Literal};
 use dl_print::{write_conclusion, write_number, write_refusal, write_theory};
-use dl_theory::EditRefusal;
+use dl_theory::{EditRefusal, Verdict};
 
 const USAGE: &[u8] =
     b"usage: ddl conclude F FILE, print FILE, check THEORY CERT, gen N SIZE, serve THEORY NAME [NAME ...]\n";
@@ -72,26 +72,32 @@ fn write_refused<S: Sink>(sink: &mut S, refusal: &Refusal) -> Result<(), Failed>
     write_all(sink, b"\n")
 }
 
-fn write_line<S: Sink>(sink: &mut S, family: Family, conclusion: &Conclusion) -> Result<(), Failed>
-    ensures bytes { WritesAll (S.written sink.old) (S.written sink.new) result (conclusion_line family conclusion.now) }
+fn write_line<S: Sink>(
+    sink: &mut S,
+    family: Family,
+    verdict: Verdict,
+    literal: &Literal,
+) -> Result<(), Failed>
+    ensures bytes { WritesAll (S.written sink.old) (S.written sink.new) result (conclusion_line family (record { literal = literal.now; verdict = verdict })) }
     ensures cause { HasCause (S.faults sink.old) (S.faults sink.new) result }
     ensures name { S.name sink.new ≡ S.name sink.old }
 {
-    write_conclusion(sink, conclusion.verdict, family, &conclusion.literal)?;
+    write_conclusion(sink, verdict, family, literal)?;
     write_all(sink, b"\n")
 }
 
 fn write_conclusions<S: Sink>(
     sink: &mut S,
     family: Family,
-    conclusions: &[Conclusion],
+    conclusions: &Concluded,
 ) -> Result<(), Failed>
     ensures bytes { WritesAll (S.written sink.old) (S.written sink.new) result (conclusions_text family conclusions.now) }
     ensures cause { HasCause (S.faults sink.old) (S.faults sink.new) result }
     ensures name { S.name sink.new ≡ S.name sink.old }
 {
-    for conclusion in conclusions {
-        write_line(sink, family, conclusion)?;
+    for at in 0..conclusions.len() {
+        let (literal, verdict) = conclusions.at(at);
+        write_line(sink, family, verdict, literal)?;
     }
     Ok(())
 }
@@ -125,11 +131,7 @@ fn write_reply<S: Sink>(sink: &mut S, reply: &Reply) -> Result<(), Failed>
     match reply {
         Reply::Usage => write_all(sink, USAGE),
         Reply::Refused(refusal) => write_refused(sink, refusal),
-        Reply::Conclusions(family, conclusions) => write_conclusions(
-            sink,
-            *family,
-            conclusions.as_slice(),
-        ),
+        Reply::Conclusions(family, conclusions) => write_conclusions(sink, *family, conclusions),
         Reply::Text(theory) => write_theory(sink, theory),
         Reply::Checked(checked) => write_checked(sink, *checked),
     }

@@ -6,7 +6,7 @@ ghost use Rattle.ddl.specs.Replies.{reply_status};
 use crate::check::Checked;
 use crate::refusal::Refusal;
 use crate::status::Status;
-use dl_edition::Conclusions;
+use dl_edition::Concluded;
 use dl_lit::Family;
 use dl_theory::Theory;
 
@@ -18,7 +18,7 @@ pub enum Reply {
     /// A file gives no theory.
     Refused(Refusal),
     /// The conclusions of a theory in a family.
-    Conclusions(Family, Conclusions),
+    Conclusions(Family, Concluded),
     /// The canonical text of a theory.
     Text(Theory),
     /// What is said of a certificate.

@@ -2,7 +2,9 @@
 
 ghost use Rattle.std.specs.Prelude.{◌≡◌, ◌⊎◌, ◌∷◌, [], List, ℕ, Option, false, map, string_bytes, IsTrue, IfOk, Some};
 ghost use Rattle.dl_io.specs.House.{IsShut, IsOpenedOut, settled_out, standard};
-ghost use Rattle.ddl.specs.Replies.{reply_status};
+ghost use Rattle.dl_io.specs.Outside.{HasCause};
+ghost use Rattle.dl_io.specs.Streams.{WritesAll};
+ghost use Rattle.ddl.specs.Replies.{reply_status, reply_text};
 ghost use Rattle.ddl.specs.Run.{Runs, Answers, ReadsOnly, IsReply, MayEnd, Shows, outcome_of, files_for, files_of};
 ghost use Rattle.ddl.specs.Certified.{SaysOfCertificate};
 ghost use Rattle.ddl.specs.Theories.{limit, HoldsLoaded};
@@ -18,7 +20,7 @@ use crate::status::Status;
 use crate::theory_file::{Loaded, load, read};
 use crate::whole::Stop;
 use crate::words::{Command, command_of};
-use dl_io::{Failed, House, OpenStop};
+use dl_io::{Failed, House, OpenStop, Sink};
 use dl_lit::{Family, Memory};
 use dl_theory::Theory;
 use std::alloc::Global;
@@ -33,8 +35,8 @@ fn conclude(alloc: Global, family: Family, loaded: Loaded) -> Result<Reply, Memo
 {
     match loaded {
         Loaded::Theory(theory) => {
-            let list = conclusions(alloc, family, theory)?;
-            Ok(Reply::Conclusions(family, list))
+            let concluded = conclusions(alloc, family, theory)?;
+            Ok(Reply::Conclusions(family, concluded))
         }
         Loaded::Refused(refusal) => Ok(Reply::Refused(refusal)),
     }
@@ -151,6 +153,18 @@ fn reply_to<H: House>(alloc: Global, words: &Vec<String>, house: &mut H) -> Resu
     }
 }
 
+// Prints a reply and lets it go.
+fn say<S: Sink>(sink: &mut S, reply: Reply) -> Result<(), Failed>
+    ensures bytes { WritesAll (S.written sink.old) (S.written sink.new) result (reply_text reply) }
+    ensures cause { HasCause (S.faults sink.old) (S.faults sink.new) result }
+    ensures name { S.name sink.new ≡ S.name sink.old }
+{
+    let printed = print(sink, &reply);
+    // by name, since the check of a block that ends with a net takes long
+    drop(reply);
+    printed
+}
+
 // Replies to the words on a new sink, which is then to be settled as standard output.
 fn respond<H: House>(alloc: Global, words: &Vec<String>, house: &mut H, sink: &mut H::Out) -> Status
     requires shut { (name : List ℕ) → (H.state house.old).open_in name ≡ false }
@@ -162,10 +176,13 @@ fn respond<H: House>(alloc: Global, words: &Vec<String>, house: &mut H, sink: &m
         (map string_bytes words.now.items) result }
 {
     match reply_to(alloc, words, house) {
-        Ok(reply) => match print(sink, &reply) {
-            Ok(()) => status_of(&reply),
-            Err(Failed) => Status::Fault,
-        },
+        Ok(reply) => {
+            let status = status_of(&reply);
+            match say(sink, reply) {
+                Ok(()) => status,
+                Err(Failed) => Status::Fault,
+            }
+        }
         Err(Stop::Fault) => Status::Fault,
         Err(Stop::Memory) => Status::Memory,
     }

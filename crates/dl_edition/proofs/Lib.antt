@@ -1,2 +1,5 @@
 pub mod Literals
 pub mod Writing
+pub mod Prefixes
+pub mod Placing
+pub mod Concluding

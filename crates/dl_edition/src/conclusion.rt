@@ -3,13 +3,10 @@
 ghost use Rattle.std.specs.Prelude.{◌≡◌, ◌<◌, ◌≤◌, All, IfOk, length, map, slice_get};
 ghost use Rattle.std.specs.Option.{option_copied};
 ghost use Rattle.dl_marks.specs.Marks.{places};
-ghost use Rattle.dl_net.specs.Numbers.{literal_at};
 ghost use Rattle.dl_fill.specs.Filled.{IsRight};
-ghost use Rattle.dl_theory.specs.Verdicts.{IsVerdict};
-ghost use Rattle.dl_edition.specs.Conclusions.{AreConclusions};
+ghost use Rattle.dl_edition.specs.Conclusions.{AreConclusions, conclusion_at};
 ghost use Rattle.dl_edition.specs.Orders.{IsOrder};
 
-use crate::order::order_of;
 use crate::verdict::marked_verdict;
 use dl_base::Memory;
 use dl_lit::{Family, Literal};
@@ -62,7 +59,7 @@ impl Conclusions {
     }
 }
 
-/// The literals with these numbers, each with what right marks say of it.
+/// The literals with these numbers, each with what marks say of it.
 fn with_verdicts(
     alloc: Global,
     net: &Net,
@@ -72,13 +69,11 @@ fn with_verdicts(
 ) -> Result<Vec<Conclusion>, Memory>
     requires numbers { All (λ n. n < length net.now.names) numbers.now }
     requires room { length net.now.names ≤ places marks.now }
-    requires right { IsRight net.now marks.now family }
-    ensures listed { IfOk result (λ list. map (λ c. c.literal) list.items ≡ map (literal_at net.now) numbers.now) }
-    ensures right { IfOk result (λ list. All (λ c. IsVerdict net.now.theory family c.literal c.verdict) list.items) }
+    ensures { IfOk result (λ list. list.items ≡ map (conclusion_at net.now marks.now family) numbers.now) }
 {
     let mut list = Vec::with_capacity(alloc, numbers.len())?;
     for number in numbers {
-        let verdict = marked_verdict(net, marks, family, *number);
+        let verdict = marked_verdict(marks, family, *number);
         let literal = net.literal(*number).copy()?;
         list.push(Conclusion { literal, verdict })?;
     }
@@ -100,19 +95,4 @@ pub(crate) fn ordered_conclusions(
 {
     let items = with_verdicts(alloc, net, marks, family, order)?;
     Ok(Conclusions { items })
-}
-
-/// The conclusions of a net's theory in a family in which the marks are right. `Memory` where there is none for the list.
-pub fn conclusions_of(
-    alloc: Global,
-    net: &Net,
-    marks: &Marks,
-    family: Family,
-) -> Result<Conclusions, Memory>
-    requires room { length net.now.names ≤ places marks.now }
-    requires right { IsRight net.now marks.now family }
-    ensures { IfOk result (AreConclusions net.now.theory family) }
-{
-    let order = order_of(alloc, net)?;
-    ordered_conclusions(alloc, net, marks, family, order.as_slice())
 }

@@ -6,16 +6,19 @@
 //! An `Office` is what hands editions out: one reasoner for many callers, each with a seat.
 #![tactic(auto)]
 
+mod concluded;
 mod conclusion;
 mod edition;
 mod held;
 mod hold_answer;
 mod office;
 mod order;
+mod placed;
 mod text;
 mod verdict;
 
-pub use conclusion::{Conclusion, Conclusions, conclusions_of};
+pub use concluded::Concluded;
+pub use conclusion::{Conclusion, Conclusions};
 pub use dl_base::Memory;
 pub use held::Held;
 pub use hold_answer::HoldAnswer;

@@ -1,43 +1,40 @@
 //! The literals that a theory mentions, in order.
 
-ghost use Rattle.std.specs.Prelude.{◌≡◌, ◌<◌, All, Contains, IfOk, length, map};
-ghost use Rattle.dl_theory.specs.Listings.{AreLiterals};
-ghost use Rattle.dl_net.specs.Numbers.{literal_at};
+ghost use Rattle.std.specs.Prelude.{◌≡◌, IfOk, length, map};
 ghost use Rattle.dl_edition.specs.Orders.{IsOrder};
+ghost use Rattle.dl_edition.specs.Placing.{ArePlaced};
 
+use crate::placed::{Placed, prefix_of};
 use dl_base::Memory;
-use dl_lit::Literal;
 use dl_net::Net;
 use std::alloc::Global;
 
-/// The literals that the theory mentions, in order.
-fn literals(alloc: Global, net: &Net) -> Result<Vec<Literal>, Memory>
-    ensures { IfOk result (λ list. AreLiterals net.now.theory list.items) }
+/// The literals that the theory mentions, in the order of their numbers. The list borrows each, and copies none.
+fn placed(alloc: Global, net: &Net) -> Result<Vec<Placed<'_>>, Memory>
+    ensures { IfOk result (λ list. ArePlaced net.now (length net.now.names) list.items) }
 {
-    let mut list = Vec::new(alloc);
+    let mut list = Vec::with_capacity(alloc, net.names())?;
     for number in 0..net.names() {
         if net.lives(number) {
-            let literal = net.literal(number).copy()?;
-            list.push(literal)?;
+            let literal = net.literal(number);
+            let prefix = prefix_of(&literal.atom);
+            list.push(Placed {
+                prefix,
+                literal,
+                number,
+            })?;
         }
     }
-    list.sort()?;
-    list.dedup();
     Ok(list)
 }
 
-/// The numbers of literals, one by one.
-fn numbers_of(alloc: Global, net: &Net, literals: &[Literal]) -> Result<Vec<usize>, Memory>
-    requires { All (Contains net.now.names) literals.now }
-    ensures within { IfOk result (λ numbers. All (λ n. n < length net.now.names) numbers.items) }
-    ensures same { IfOk result (λ numbers. map (literal_at net.now) numbers.items ≡ literals.now) }
+/// The numbers of these literals, one by one.
+fn numbers_of(alloc: Global, list: &[Placed<'_>]) -> Result<Vec<usize>, Memory>
+    ensures { IfOk result (λ numbers. numbers.items ≡ map (λ p. p.number) list.now) }
 {
-    let mut numbers = Vec::with_capacity(alloc, literals.len())?;
-    for literal in literals {
-        match net.find(literal) {
-            Some(number) => numbers.push(number)?,
-            None => unreachable!(),
-        }
+    let mut numbers = Vec::with_capacity(alloc, list.len())?;
+    for placed in list {
+        numbers.push(placed.number)?;
     }
     Ok(numbers)
 }
@@ -47,8 +44,9 @@ fn numbers_of(alloc: Global, net: &Net, literals: &[Literal]) -> Result<Vec<usiz
 pub(crate) fn order_of(alloc: Global, net: &Net) -> Result<Vec<usize>, Memory>
     ensures { IfOk result (λ order. IsOrder net.now order.items) }
 {
-    let literals = literals(alloc, net)?;
+    let mut list = placed(alloc, net)?;
+    // Numbers stand for distinct literals, so nothing is listed twice.
     let _count = net.names();
-    let order = numbers_of(alloc, net, literals.as_slice())?;
-    Ok(order)
+    list.sort_unstable();
+    numbers_of(alloc, list.as_slice())
 }

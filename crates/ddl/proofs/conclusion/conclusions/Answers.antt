@@ -5,5 +5,5 @@ use Rattle.ddl.proofs.conclusion.conclusions.Goals as goal
 
 pub returns : goal.returns
 returns c =
-    subst (λ (T : TheoryLists). IfOk c.filled_conclusions.result (AreConclusions T c.args.family)) c.in_ok-net.ensures.theory
-    c.filled_conclusions.ensures
+    subst (λ (T : TheoryLists). IfOk c.make.result (AreConclusions T c.args.family)) c.in_ok-net.ensures.theory
+    c.make.ensures

@@ -5,10 +5,10 @@ use Rattle.ddl.specs.Words.{Conclude}
 use Rattle.ddl.specs.Run.{concluded, refused}
 use Rattle.ddl.proofs.run.conclude.Goals as goal
 
-pub returns-in_ok-list-in-Theory-clause-shown : goal.returns-in_ok-list-in-Theory-clause-shown
-returns-in_ok-list-in-Theory-clause-shown c = λ holds file gives.
-    concluded c.args.family file gives.0 c.in-Theory.theory c.in_ok-list-in-Theory.list gives.1
-    (subst (λ (x : Loaded). IsLoaded gives.0 x) c.in-Theory.is gives.2) c.in_ok-list-in-Theory.ensures
+pub returns-in_ok-concluded-in-Theory-clause-shown : goal.returns-in_ok-concluded-in-Theory-clause-shown
+returns-in_ok-concluded-in-Theory-clause-shown c = λ holds file gives.
+    concluded c.args.family file gives.0 c.in-Theory.theory c.in_ok-concluded-in-Theory.concluded gives.1
+    (subst (λ (x : Loaded). IsLoaded gives.0 x) c.in-Theory.is gives.2) c.in_ok-concluded-in-Theory.ensures
 
 pub returns-in-Refused-clause-shown : goal.returns-in-Refused-clause-shown
 returns-in-Refused-clause-shown c = λ holds file gives.

@@ -1,13 +1,13 @@
-use Rattle.std.proofs.Common.{List, sym, subst}
-use Rattle.std.specs.Prelude.{All, Contains}
-use Rattle.std.proofs.lemmas.List.Elements.{All-weaker}
-use Rattle.dl_lit.specs.declared.literal.Literal.{Literal}
-use Rattle.dl_theory.specs.Listings.{Mentions}
+use Rattle.std.proofs.Common.{◌≡◌, ◌∙◌, map, ap}
+use Rattle.std.proofs.lemmas.Result.{IfOk-weaker}
+use Rattle.dl_edition.specs.Orders.{IsOrder}
+use Rattle.dl_edition.proofs.Placing.{ordered}
 use Rattle.dl_edition.proofs.order.order_of.Goals as goal
 
-pub numbers_of-requires : goal.numbers_of-requires
-numbers_of-requires c =
+pub returns : goal.returns
+returns c =
     let N = c.args.net.now in
-    subst (λ (qs : List Literal). All (Contains N.names) qs) (sym c.as_slice.ensures.value)
-    (All-weaker (Mentions N.theory) (Contains N.names) (λ q m. c.names-count.ensures.numbered.mentioned q m) c.in_ok-literals.literals.items
-    c.in_ok-literals.ensures.sound)
+    IfOk-weaker c.numbers_of.result (λ numbers. numbers.items ≡ map (λ p. p.number) c.as_slice.result.now) (λ order. IsOrder N order.items)
+    (λ order are.
+    ordered N c.in_ok-list.list.items c.sort_unstable.new.self.items c.names-count.ensures.numbered c.in_ok-list.ensures c.sort_unstable.ensures.permutation
+    c.sort_unstable.ensures.sorted order.items (are ∙ ap (map (λ p. p.number)) c.as_slice.ensures.value)) c.numbers_of.ensures
