@@ -7,14 +7,14 @@ use std::alloc::Global;
 use std::sync::ArcSlice;
 
 /// As many bytes as stand in the name itself.
-const SHORT: usize = 15;
+const SHORT: usize = 14;
 
 /// A few bytes in place.
 #[derive(Clone, Copy)]
 pub(crate) struct Short {
     len: u8,
     bytes: [u8; SHORT],
-    ghost within: { len ≤ 15 },
+    ghost within: { len ≤ 14 },
 }
 
 /// Bytes in place, or shared ones.
@@ -28,7 +28,7 @@ impl Short {
     ghost use Rattle.dl_lit.specs.Text.{short_bytes};
 
     fn make(bytes: &[u8]) -> Short
-        requires { length bytes.now ≤ 15 }
+        requires { length bytes.now ≤ 14 }
         ensures { short_bytes result ≡ bytes.now }
     {
         let mut room = [0; SHORT];

@@ -1,5 +1,5 @@
 -- The place of a value in a list, and a removed value.
-use Rattle.std.proofs.Common.{◌≡◌, ◌≢◌, ℕ, Bool, true, false, List, Option, Some, None, get_or, position, is_some, refl, sym, ap, subst, ◌∙◌, true≢false}
+use Rattle.std.proofs.Common.{◌≡◌, ◌≢◌, ℕ, Bool, true, false, not, List, Option, Some, None, get_or, position, is_some, refl, sym, ap, subst, ◌∙◌, true≢false}
 use Rattle.std.specs.Prelude.{Contains, IfSome, IsTrue}
 use Rattle.std.specs.Bool.{Decides}
 use Rattle.std.specs.Set.{is_member}
@@ -13,3 +13,11 @@ module _ {X : Type 0} (eq : X → X → Bool) (same : (a b : X) → Decides (eq 
 
   pub no_place : (place : Option ℕ) → is_some place ≡ is_member eq xs x → place ≡ None → ¬ Contains xs x
   no_place place e none m = true≢false (sym ((is_member-Decides same xs x).1 m) ∙ sym e ∙ ap is_some none)
+
+  -- a value is not new exactly where it was there
+  pub not_new : (new : Bool) → new ≡ not (is_member eq xs x) → (new ≡ false → Contains xs x) × (Contains xs x → new ≡ false)
+  not_new new e = by (is_member eq xs x) new e (is_member-Decides same xs x)
+    where
+      by : (b n : Bool) → n ≡ not b → Decides b (Contains xs x) → (n ≡ false → Contains xs x) × (Contains xs x → n ≡ false)
+      by true n e' d = (λ _. d.0 refl, λ _. e')
+      by false n e' d = (λ f. absurd (true≢false (sym e' ∙ f)), λ m. absurd (true≢false (sym (d.1 m))))

@@ -1,6 +1,6 @@
 //! Sets of labels in order.
 
-ghost use Rattle.std.specs.Prelude.{◌≡◌, [], ◌∷◌, ◌++◌, ◌↔◌, ◌<◌, IsTrue, OnOk, OnErr, IfSome, None, Contains, length, slice_index_or};
+ghost use Rattle.std.specs.Prelude.{◌≡◌, [], ◌∷◌, ◌++◌, ◌↔◌, ◌<◌, IsTrue, IfOk, OnOk, OnErr, IfSome, None, Contains, false, length, slice_index_or, if◌then◌else◌};
 
 use dl_lit::{Memory, Name};
 use indexmap::IndexSet;
@@ -18,6 +18,16 @@ pub(crate) fn append_label(labels: &mut IndexSet<Name>, label: Name) -> Result<(
 {
     labels.insert(label)?;
     Ok(())
+}
+
+/// Adds a label at the end where it is new, and tells whether it is.
+pub(crate) fn insert_label(labels: &mut IndexSet<Name>, label: Name) -> Result<bool, Memory>
+    ensures new { IfOk result (λ new. (new ≡ false) ↔ Contains labels.old.keys label) }
+    ensures keys { IfOk result (λ new. labels.new.keys ≡ labels.old.keys ++ (if new then label ∷ [] else [])) }
+    ensures err { OnErr result (labels.new.keys ≡ labels.old.keys) }
+{
+    let new = labels.insert(label)?;
+    Ok(new)
 }
 
 /// The place of a label.

@@ -1,11 +1,11 @@
 //! Rules in order, each found by its label.
 
-ghost use Rattle.std.specs.Prelude.{◌≡◌, [], ◌∷◌, ◌++◌, ◌↔◌, ◌<◌, ℕ, IsTrue, OnOk, OnErr, IfOk, IfErr, IfSome, IfNone, IsSome, Contains, filter, not, map, length, slice_index_or, slice_get};
+ghost use Rattle.std.specs.Prelude.{◌≡◌, [], ◌∷◌, ◌++◌, ◌↔◌, ◌<◌, ℕ, IsTrue, OnErr, IfOk, IfSome, IfNone, MatchOption, Contains, filter, not, map, length, slice_index_or, slice_get};
 ghost use Rattle.std.specs.Option.{option_copied};
 ghost use Rattle.std.specs.Str.{bytes_eq};
 ghost use Rattle.dl_base.specs.Paths.{IsDistinct};
 
-use crate::labels::{append_label, holds_label, place_of};
+use crate::labels::{holds_label, insert_label, place_of};
 use crate::rule::Rule;
 use dl_lit::{Memory, Name};
 use indexmap::IndexSet;
@@ -40,14 +40,14 @@ impl Rules {
         }
     }
 
-    /// Adds a rule at the end.
-    pub fn push(&mut self, rule: Rule) -> Result<(), Memory>
-        requires { ¬ Contains (map (λ r. r.label) self.old) rule.label }
-        ensures ok { OnOk result (self.new ≡ self.old ++ rule ∷ []) }
+    /// Adds a rule at the end where no rule has its label, and gives it back where one has.
+    pub fn add(&mut self, rule: Rule) -> Result<Option<Rule>, Memory>
+        ensures added { IfOk result (λ back. MatchOption back (¬ Contains (map (λ r. r.label) self.old) rule.label) (λ given. (given ≡ rule) × Contains (map (λ r. r.label) self.old) rule.label)) }
+        ensures rules { IfOk result (λ back. MatchOption back (self.new ≡ self.old ++ rule ∷ []) (λ _. self.new ≡ self.old)) }
         ensures err { OnErr result (self.new ≡ self.old) }
     {
         let label = rule.label.copy()?;
-        append_rule(&mut self.items, &mut self.labels, label, rule)
+        add_rule(&mut self.items, &mut self.labels, label, rule)
     }
 
     /// An equal list.
@@ -57,7 +57,10 @@ impl Rules {
     {
         let mut copy = Rules::make(*self.items.allocator());
         for rule in &self.items {
-            copy.push(rule.copy()?)?;
+            match copy.add(rule.copy()?)? {
+                None => {}
+                Some(_) => unreachable!(),
+            }
         }
         Ok(copy)
     }
@@ -106,25 +109,25 @@ impl Rules {
     }
 }
 
-fn append_rule(
+/// The rule and its label go last where the label is new; else the rule comes back.
+fn add_rule(
     rules: &mut Vec<Rule>,
     labels: &mut IndexSet<Name>,
     label: Name,
     rule: Rule,
-) -> Result<(), Memory>
-    requires { ¬ Contains labels.old.keys label }
-    ensures rules_ok { OnOk result (rules.new.items ≡ rules.old.items ++ rule ∷ []) }
-    ensures labels_ok { OnOk result (labels.new.keys ≡ labels.old.keys ++ label ∷ []) }
+) -> Result<Option<Rule>, Memory>
+    ensures added { IfOk result (λ back. MatchOption back (¬ Contains labels.old.keys label) (λ given. (given ≡ rule) × Contains labels.old.keys label)) }
+    ensures rules { IfOk result (λ back. MatchOption back (rules.new.items ≡ rules.old.items ++ rule ∷ []) (λ _. rules.new.items ≡ rules.old.items)) }
+    ensures labels { IfOk result (λ back. MatchOption back (labels.new.keys ≡ labels.old.keys ++ label ∷ []) (λ _. labels.new.keys ≡ labels.old.keys)) }
     ensures rules_err { OnErr result (rules.new.items ≡ rules.old.items) }
     ensures labels_err { OnErr result (labels.new.keys ≡ labels.old.keys) }
 {
-    rules.push(rule)?;
-    match append_label(labels, label) {
-        Ok(()) => Ok(()),
-        Err(stop) => {
-            rules.pop();
-            Err(stop)
-        }
+    rules.reserve(1)?;
+    if insert_label(labels, label)? {
+        rules.push_reserved(rule);
+        Ok(None)
+    } else {
+        Ok(Some(rule))
     }
 }
 

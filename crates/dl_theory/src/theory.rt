@@ -1,6 +1,6 @@
 //! Theories under edits.
 
-ghost use Rattle.std.specs.Prelude.{◌≡◌, ◌<◌, length, slice_get, slice_index_or, OnOk, OnErr, IfOk, IfErr, IfSome, IfNone, MatchOption, ◌≤◌, ◌↔◌, IsTrue, Contains, ◌++◌, ◌∷◌, [], filter, not};
+ghost use Rattle.std.specs.Prelude.{◌≡◌, ◌<◌, length, slice_get, slice_index_or, OnOk, OnErr, IfOk, IfErr, IfSome, IfNone, MatchOption, ◌≤◌, ◌↔◌, IsTrue, Contains, ◌++◌, ◌∷◌, [], filter, not, false, if◌then◌else◌};
 ghost use Rattle.dl_base.specs.Paths.{IsDistinct};
 ghost use Rattle.dl_lit.specs.Literal.{literal_eq};
 ghost use Rattle.dl_theory.specs.Refusals.{refusal_of, outcome_of};
@@ -266,15 +266,14 @@ impl Theory {
         ensures stopped { IfErr result (IsStopped self.old (Edit.AddRule rule)) }
         ensures kept { OnErr result (self.new ≡ self.old) }
     {
-        if self.rules.has(&rule.label) {
-            let Rule { label, .. } = rule;
-            return Err(EditStop::Refused(EditRefusal::LabelThere(label)));
-        }
-        if self.rules.len() >= LIMIT {
+        // one look-up tells whether the label is new and puts it in; where the list is full, nothing may be put in
+        if self.rules.len() >= LIMIT && !self.rules.has(&rule.label) {
             return Err(EditStop::Refused(EditRefusal::RulesFull));
         }
-        self.rules.push(rule)?;
-        Ok(())
+        match self.rules.add(rule)? {
+            None => Ok(()),
+            Some(Rule { label, .. }) => Err(EditStop::Refused(EditRefusal::LabelThere(label))),
+        }
     }
 
     fn drop_rule(&mut self, label: Name) -> Result<(), EditStop>
@@ -296,13 +295,12 @@ impl Theory {
         ensures stopped { IfErr result (IsStopped self.old (Edit.AddFact fact)) }
         ensures kept { OnErr result (self.new ≡ self.old) }
     {
-        if holds(&self.facts, &fact) {
-            return Err(EditStop::Refused(EditRefusal::FactThere));
-        }
-        if self.facts.len() >= LIMIT {
+        if self.facts.len() >= LIMIT && !holds(&self.facts, &fact) {
             return Err(EditStop::Refused(EditRefusal::FactsFull));
         }
-        append(&mut self.facts, fact)?;
+        if !insert(&mut self.facts, fact)? {
+            return Err(EditStop::Refused(EditRefusal::FactThere));
+        }
         Ok(())
     }
 
@@ -421,6 +419,16 @@ fn append(facts: &mut IndexSet<Literal>, fact: Literal) -> Result<(), Memory>
 {
     facts.insert(fact)?;
     Ok(())
+}
+
+/// Adds a fact at the end where it is new, and tells whether it is.
+fn insert(facts: &mut IndexSet<Literal>, fact: Literal) -> Result<bool, Memory>
+    ensures new { IfOk result (λ new. (new ≡ false) ↔ Contains facts.old.keys fact) }
+    ensures keys { IfOk result (λ new. facts.new.keys ≡ facts.old.keys ++ (if new then fact ∷ [] else [])) }
+    ensures err { OnErr result (facts.new.keys ≡ facts.old.keys) }
+{
+    let new = facts.insert(fact)?;
+    Ok(new)
 }
 
 fn remove(facts: &mut IndexSet<Literal>, fact: &Literal) -> bool
