@@ -207,7 +207,7 @@ tables_roomed T a b marks marks' x x' P distinct g kept more h =
     }
 
 pub same_rules : (x : IndexLists) → KeepsRules x x
-same_rules x = record { lines = refl; lowers = refl; uppers = refl; wider = omega arith }
+same_rules x = record { lines = refl; lowers = refl; uppers = refl; wider = omega arith; numbers = refl }
 
 -- ---- other tables than those that an edit changes
 

@@ -1,6 +1,6 @@
 -- A net through the steps of an edit.
-use Rattle.std.proofs.Common.{◌≡◌, Bool, true, false, Vec, Global, Option, None, Some, List, sym, subst}
-use Rattle.std.specs.Prelude.{All, Contains}
+use Rattle.std.proofs.Common.{◌≡◌, Bool, true, false, Option, None, Some, List, map, ap, sym, subst, ◌∙◌}
+use Rattle.std.specs.Prelude.{All, Contains, flat_map}
 use Rattle.dl_base.specs.Paths.{IsDistinct}
 use Rattle.dl_lit.specs.declared.literal.Literal.{Literal}
 use Rattle.dl_lit.specs.Names.{Numbering}
@@ -11,11 +11,13 @@ use Rattle.dl_theory.proofs.WellFormed.{edit_keeps}
 use Rattle.dl_net.specs.declared.net.Net.TheInside.{Inside}
 use Rattle.dl_net.specs.Numbers.{NetLists, IsNumbered}
 use Rattle.dl_net.specs.Staged.{StagedLists}
+use Rattle.dl_net.specs.Listed.{Listed}
 use Rattle.dl_net.specs.Lines.{IndexLists}
-use Rattle.dl_net.specs.Named.{IsPaired, HasLiterals}
+use Rattle.dl_net.specs.Above.{lower_step, upper_step}
+use Rattle.dl_net.specs.Named.{IsPaired, HasLiterals, line_in}
 use Rattle.dl_net.specs.Room.{HasEditRoom, HasPending}
 use Rattle.dl_net.specs.KeptNet.{net_of, theory_of, pending_of, numbered, HasTables, IsKeptNet}
-use Rattle.dl_net.proofs.NetLemmas.{mentioned_in, numbered_by}
+use Rattle.dl_net.proofs.NetLemmas.{mentioned_in, numbered_by, tables_by}
 
 -- ---- what is prepared, and whether the net is frozen, matters to neither numbers nor tables
 
@@ -42,7 +44,7 @@ nothing_pending N marks x (Some p) e = cc
 
 -- ---- a net of which nothing is prepared
 
-pub kept_settled : (S : StagedLists) (names : Numbering) (facts : Vec Bool Global) (x : IndexLists) (f : Bool) → IsWellFormed S.theory → S.pending ≡ None
+pub kept_settled : (S : StagedLists) (names : Numbering) (facts : Listed Bool) (x : IndexLists) (f : Bool) → IsWellFormed S.theory → S.pending ≡ None
     → IsDistinct names.literals → IsPaired names.literals → HasTables (numbered S.theory names.literals) facts.items x → (f ≡ true → names.frozen ≡ true)
     → IsKeptNet (record { staged = S; names = names; facts = facts; index = x; frozen = f })
 kept_settled S names facts x f formed none distinct paired tables frozen =
@@ -58,7 +60,7 @@ kept_settled S names facts x f formed none distinct paired tables frozen =
     }
 
 -- a net of which an edit is prepared
-pub kept_pending : (S : StagedLists) (names : Numbering) (facts : Vec Bool Global) (x : IndexLists) (e : Edit) → IsWellFormed S.theory → S.pending ≡ Some e
+pub kept_pending : (S : StagedLists) (names : Numbering) (facts : Listed Bool) (x : IndexLists) (e : Edit) → IsWellFormed S.theory → S.pending ≡ Some e
     → IsDistinct names.literals → IsPaired names.literals → HasTables (numbered S.theory names.literals) facts.items x → IsAccepted S.theory e
     → HasEditRoom S.theory names.literals facts.items x e
     → IsKeptNet (record { staged = S; names = names; facts = facts; index = x; frozen = false })
@@ -105,8 +107,28 @@ kept_same a h S names' f theory none same frozen =
       settled = λ e. none;
     }))
 
+-- a net of which nothing is prepared, with equal names and another index of the same rules
+pub kept_anew : (a : Inside) → IsKeptNet a → a.staged.pending ≡ None → (names' : Numbering) → names' ≡ a.names → (x : IndexLists)
+    → x.lines ≡ map (line_in names'.literals) a.staged.theory.rules
+    → x.lowers ≡ map (λ t. flat_map (λ p. lower_step a.staged.theory p t) a.staged.theory.pairs) a.staged.theory.rules
+    → x.uppers ≡ map (λ u. flat_map (λ p. upper_step a.staged.theory p u) a.staged.theory.pairs) a.staged.theory.rules
+    → IsKeptNet (record { staged = a.staged; names = names'; facts = a.facts; index = x; frozen = a.frozen })
+kept_anew a h none names' same x lines lowers uppers =
+    let N : NetLists = net_of a in
+    subst (λ (n : Numbering). IsKeptNet (record { staged = a.staged; names = n; facts = a.facts; index = x; frozen = a.frozen })) (sym same)
+    (record {
+      formed = h.formed;
+      numbered = h.numbered;
+      paired = h.paired;
+      tables = tables_by N a.facts.items x h.tables.facts_named h.tables.rules_named h.tables.facts
+          (lines ∙ ap (λ (n : Numbering). map (line_in n.literals) a.staged.theory.rules) same) lowers uppers;
+      pending = nothing_pending N a.facts.items x a.staged.pending none;
+      frozen = h.frozen;
+      settled = h.settled;
+    })
+
 -- a net of which the edit was made that was prepared
-pub kept_made : (a : Inside) → IsKeptNet a → (e : Edit) (S : StagedLists) (facts' : Vec Bool Global) (x : IndexLists) → IsAccepted (theory_of a) e
+pub kept_made : (a : Inside) → IsKeptNet a → (e : Edit) (S : StagedLists) (facts' : Listed Bool) (x : IndexLists) → IsAccepted (theory_of a) e
     → S.theory ≡ after_edit (theory_of a) e → S.pending ≡ None → HasTables (numbered (after_edit (theory_of a) e) a.names.literals) facts'.items x
     → IsKeptNet (record { staged = S; names = a.names; facts = facts'; index = x; frozen = false })
 kept_made a h e S facts' x accepted changed none made =

@@ -1,7 +1,6 @@
 -- One rule more below another.
 use Rattle.std.proofs.Common.{◌≡◌, ◌≢◌, ℕ, ◌<◌, ◌≤◌, List, [], ◌∷◌, ◌++◌, length, get_or, set, map, zero, suc, refl, sym, ap, ◌∙◌, subst, arith, inl, inr, get_or-set_same, get_or-set_other}
 use Rattle.std.specs.Prelude.{All, Contains}
-use Rattle.std.proofs.Math.ListN.{length-set}
 use Rattle.std.proofs.lemmas.Bool.{cases_eq}
 use Rattle.std.proofs.lemmas.List.{get_or-map}
 use Rattle.std.proofs.lemmas.List.Elements.{All-push, All-contains, Contains-append_left, Contains-append_cases, Contains-push}
@@ -59,9 +58,6 @@ module _ (t t' : Table) (n x : ℕ) (p : Puts t t' n x) where
   pub put_past : (len k : ℕ) → n < len → len ≤ k → list_at t k ≡ [] → list_at t' k ≡ []
   put_past len k lt past empty = put_other k (λ e. absurd (omega (arith, e, lt, past))) ∙ empty
 
-  pub put_wide : length t'.lists ≡ length t.lists
-  put_wide = ap length p.lists ∙ length-set t.lists n (list_at t n ++ x ∷ [])
-
 pub HasLinks-put : (len : ℕ) (order : List ℕ) (lowers uppers lowers' uppers' : Table) (u l : ℕ) → HasLinks len order lowers uppers
     → All (λ s. s < len) order → Contains order u → Contains order l → Puts lowers lowers' u l → Puts uppers uppers' l u → HasLinks len order lowers' uppers'
 HasLinks-put len order lowers uppers lowers' uppers' u l h within mu ml pl pu =
@@ -78,8 +74,6 @@ HasLinks-put len order lowers uppers lowers' uppers' u l h within mu ml pl pu =
           (λ e f. subst (λ (x : ℕ). Contains (list_at lowers' s) x) (sym e) (subst (λ (y : ℕ). Contains (list_at lowers' y) l) (sym f) (put_adds lowers lowers' u l pl)));
       lower_past = λ s past. put_past lowers lowers' u l pl len s lu past (h.lower_past s past);
       upper_past = λ s past. put_past uppers uppers' l u pu len s ll past (h.upper_past s past);
-      lower_wide = omega (arith, put_wide lowers lowers' u l pl, h.lower_wide);
-      upper_wide = omega (arith, put_wide uppers uppers' l u pu, h.upper_wide);
     }
 
 -- a map that changes at one place

@@ -1,5 +1,5 @@
 -- The order of the rules where none was dropped.
-use Rattle.std.proofs.Common.{◌≡◌, ℕ, zero, suc, ◌+◌, ◌-◌, ◌<◌, ◌≤◌, Option, List, length, get_or, sym, ap, ◌∙◌, subst, arith}
+use Rattle.std.proofs.Common.{◌≡◌, ℕ, zero, suc, ◌+◌, ◌-◌, ◌<◌, ◌≤◌, Option, List, length, get_or, sym, ap, ◌∙◌, arith}
 use Rattle.std.specs.Prelude.{All, Contains}
 use Rattle.std.proofs.lemmas.List.{get_or_default}
 use Rattle.std.proofs.lemmas.List.Elements.{All-get_or}
@@ -30,26 +30,16 @@ rising_still xs n up within e k lt =
     )
 
 module _ (entries : List (Option Entry)) (order places : List ℕ) (heads uses : Table) (h : HasRules entries order places heads uses) where
-  order_stays : length order ≡ length places → IsStill order
-  order_stays e = rising_still order (length entries) h.rising h.within (e ∙ h.as_long)
+  -- where there are as many places
+  pub order_still : (n : ℕ) → n ≡ length places → length order ≡ n → IsStill order
+  order_still n others e = rising_still order (length entries) h.rising h.within (e ∙ others ∙ h.as_long)
 
-  places_stay : length places ≡ length order → IsStill places
-  places_stay e k lt =
-      let within : k < length order = omega (arith, e, lt) in
-      ap (place_in places) (sym (order_stays (sym e) k within)) ∙ h.placed k within
+  -- where there are as many rules
+  pub places_still : (n : ℕ) → n ≡ length order → length places ≡ n → IsStill places
+  places_still n others e k lt =
+      let within : k < length order = omega (arith, e, others, lt) in
+      ap (place_in places) (sym (order_still n (sym e) (sym others) k within)) ∙ h.placed k within
 
-  -- a slice of the order, where there are as many places
-  pub order_still : (xs : List ℕ) (n : ℕ) → xs ≡ order → n ≡ length places → length xs ≡ n → IsStill xs
-  order_still xs n is others e = subst (λ (ys : List ℕ). IsStill ys) (sym is) (order_stays (sym (ap length is) ∙ e ∙ others))
-
-  -- a slice of the places, where there are as many rules
-  pub places_still : (xs : List ℕ) (n : ℕ) → xs ≡ places → n ≡ length order → length xs ≡ n → IsStill xs
-  places_still xs n is others e = subst (λ (ys : List ℕ). IsStill ys) (sym is) (places_stay (sym (ap length is) ∙ e ∙ others))
-
--- what was read from a slice of the list
-module _ (order xs : List ℕ) (k x : ℕ) (is : xs ≡ order) (read : x ≡ get_or xs k 0) where
-  pub read_at : get_or order k 0 ≡ x
-  read_at = ap (λ (ys : List ℕ). get_or ys k 0) (sym is) ∙ sym read
-
-  pub read_member : k < length order → Contains order x
-  read_member lt = (k, lt, get_or_default order k x 0 lt ∙ read_at)
+-- what was read from the list is there
+pub read_member : (order : List ℕ) (k x : ℕ) → x ≡ get_or order k 0 → k < length order → Contains order x
+read_member order k x read lt = (k, lt, get_or_default order k x 0 lt ∙ sym read)

@@ -117,21 +117,15 @@ module _ (len len' : ℕ) (order order' : List ℕ) (lowers uppers lowers' upper
   all_there xs ys e more h =
       subst (λ (zs : List ℕ). All (Contains order') zs) (sym e) (All-weaker (Contains order) (Contains order') more xs h)
 
-  pub HasLinks-more : HasLinks len order lowers uppers → ((s : ℕ) → Contains order s → Contains order' s) → len ≤ len' → len' ≤ length lowers'.lists
-      → len' ≤ length uppers'.lists → HasLinks len' order' lowers' uppers'
-  HasLinks-more h more up wl wu = record {
+  pub HasLinks-more : HasLinks len order lowers uppers → ((s : ℕ) → Contains order s → Contains order' s) → len ≤ len' → HasLinks len' order' lowers' uppers'
+  HasLinks-more h more up = record {
     lower_there = λ s. all_there (list_at lowers s) (list_at lowers' s) (kl.lists s) more (h.lower_there s);
     upper_there = λ s. all_there (list_at uppers s) (list_at uppers' s) (ku.lists s) more (h.upper_there s);
     turned = λ s t m. subst (λ (xs : List ℕ). Contains xs s) (sym (ku.lists t)) (h.turned s t (subst (λ (xs : List ℕ). Contains xs t) (kl.lists s) m));
     turned_back = λ s t m. subst (λ (xs : List ℕ). Contains xs t) (sym (kl.lists s)) (h.turned_back s t (subst (λ (xs : List ℕ). Contains xs s) (ku.lists t) m));
     lower_past = λ s past. kl.lists s ∙ h.lower_past s (omega (arith, past));
     upper_past = λ s past. ku.lists s ∙ h.upper_past s (omega (arith, past));
-    lower_wide = wl;
-    upper_wide = wu;
   }
-
-pub KeepsLists-refl : (t : Table) → KeepsLists t t
-KeepsLists-refl t = record { lists = λ n. refl; wide = omega arith; room = λ n. omega arith }
 
 -- tables that hold the same stand for the same rules
 pub HasRules-kept : (entries : List (Option Entry)) (order places : List ℕ) (heads uses heads' uses' : Table) → HasRules entries order places heads uses

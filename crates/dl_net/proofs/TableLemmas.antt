@@ -1,9 +1,9 @@
 -- One list of a table changes.
-use Rattle.smallvec.specs.SmallVec.{SmallVec, small_vec_len}
-use Rattle.std.specs.List.Retain.{RetainsInTurn}
-use Rattle.std.specs.Prelude.{Bool, cond, filter, ◌∷◌}
-use Rattle.dl_net.specs.Tables.{KeepsLists}
-use Rattle.std.proofs.Common.{◌≡◌, ◌≢◌, ℕ, ◌<◌, ◌≤◌, ◌-◌, List, [], length, get_or, set, map, sym, ap, ◌∙◌, subst, arith, inl, inr, get_or-set_same, get_or-set_other}
+use Rattle.std.specs.Prelude.{cond, ◌==◌}
+use Rattle.dl_net.specs.Row.{NumberList}
+use Rattle.dl_net.specs.Tables.{Table, list_at, KeepsLists}
+use Rattle.dl_net.proofs.NumberLists.{alike, differ}
+use Rattle.std.proofs.Common.{◌≡◌, ◌≢◌, ℕ, ◌<◌, ◌≤◌, List, [], length, get_or, set, map, sym, ap, ◌∙◌, subst, arith, inl, inr, get_or-set_same, get_or-set_other}
 use Rattle.std.proofs.Math.ListN.{length-map}
 use Rattle.std.proofs.lemmas.List.{get_or-map, map-set, get_or_past}
 use Rattle.std.proofs.Math.Seq.{map-set_same}
@@ -40,21 +40,35 @@ spare_within xs i h =
     elim (cases_lt i (length xs)) [ inl lt ↦ lt | inr ge ↦ let none : get_or xs i 0 ≡ 0 = get_or_past xs i 0 ge in absurd (omega (arith, none, h)) ]
 
 -- a list of which only the room grows
-pub kept_lists : (xs : List (SmallVec ℕ)) (i : ℕ) (old new : SmallVec ℕ) → i < length xs → old ≡ get_or xs i old → new.items ≡ old.items
-    → old.capacity - small_vec_len old ≤ new.capacity - small_vec_len new
-    → KeepsLists (record { lists = map (λ v. v.items) xs; spare = map (λ v. v.capacity - small_vec_len v) xs })
-    (record { lists = map (λ v. v.items) (set xs i new); spare = map (λ v. v.capacity - small_vec_len v) (set xs i new) })
+pub kept_lists : (xs : List NumberList) (i : ℕ) (old new : NumberList) → i < length xs → old ≡ get_or xs i old → new.items ≡ old.items
+    → old.spare ≤ new.spare
+    → KeepsLists (record { lists = map (λ v. v.items) xs; spare = map (λ v. v.spare) xs })
+    (record { lists = map (λ v. v.items) (set xs i new); spare = map (λ v. v.spare) (set xs i new) })
 kept_lists xs i old new within read same up = record {
   lists = λ n. ap (λ (ls : List (List ℕ)). get_or ls n []) (map_kept (λ v. v.items) xs i old new within read same);
   wide = omega (arith, ap length (map_kept (λ v. v.items) xs i old new within read same));
-  room = map_rises (λ v. v.capacity - small_vec_len v) xs i old new within read up;
+  room = map_rises (λ v. v.spare) xs i old new within read up;
 }
 
--- where no call changes the closure or the element, those that pass the test are left
-pub filter_retained : {X F : Type 0} (R : F → X → Bool → F → X → Type 0) (test : X → Bool) (f : F)
-    → ((x : X) (b : Bool) (f' : F) (y : X) → R f x b f' y → (b ≡ test x) × (f' ≡ f) × (y ≡ x)) → (xs ys : List X) → RetainsInTurn R f xs ys → ys ≡ filter test xs
-filter_retained R test f says [] ys h = h
-filter_retained R test f says (x ∷ xs) ys h =
-    let said = says x h.0 h.1 h.2 h.3 in
-    let rest = filter_retained R test f says xs h.4 (subst (λ g. RetainsInTurn R g xs h.4) said.1 h.5) in
-    h.6 ∙ (λ i. cond (said.0 i) (said.2 i ∷ rest i) (rest i))
+-- ---- a list that becomes another, by number
+
+pub written_at : (f : List ℕ → List ℕ) (t t' : Table) (h : ℕ) → h < length t.lists → t'.lists ≡ set t.lists h (f (list_at t h)) → (n : ℕ)
+    → list_at t' n ≡ cond (n == h) (f (list_at t n)) (list_at t n)
+written_at f t t' h within put n =
+    elim (cases_eq n h) [
+      | inl e ↦ ap (list_at t') e ∙ ap (λ (ls : List (List ℕ)). get_or ls h []) put ∙ get_or-set_same t.lists h (f (list_at t h)) [] within
+          ∙ ap (λ k. f (list_at t k)) (sym e) ∙ sym (ap (λ b. cond b (f (list_at t n)) (list_at t n)) (alike n h e))
+      | inr d ↦ ap (λ (ls : List (List ℕ)). get_or ls n []) put ∙ get_or-set_other t.lists h n (f (list_at t h)) [] d
+          ∙ sym (ap (λ b. cond b (f (list_at t n)) (list_at t n)) (differ n h d))
+    ]
+
+-- past the end each list is empty, and stays so
+pub idle_at : (f : List ℕ → List ℕ) → f [] ≡ [] → (t : Table) (h : ℕ) → length t.lists ≤ h → (n : ℕ)
+    → list_at t n ≡ cond (n == h) (f (list_at t n)) (list_at t n)
+idle_at f none t h past n =
+    elim (cases_eq n h) [
+      | inl e ↦
+          let empty : list_at t n ≡ [] = get_or_past t.lists n [] (omega (arith, e, past)) in
+          empty ∙ sym none ∙ ap f (sym empty) ∙ sym (ap (λ b. cond b (f (list_at t n)) (list_at t n)) (alike n h e))
+      | inr d ↦ sym (ap (λ b. cond b (f (list_at t n)) (list_at t n)) (differ n h d))
+    ]

@@ -7,7 +7,7 @@ use Rattle.std.proofs.lemmas.Bool.Decides.{Decides-eqb, Decides-like, same_from_
 use Rattle.std.proofs.lemmas.List.{get_or_default, get_or-map, map-id}
 use Rattle.std.proofs.lemmas.Simd.{map-map}
 use Rattle.std.proofs.lemmas.List.Edits.{length-remove, get_or-remove_below, get_or-remove_above}
-use Rattle.std.proofs.lemmas.List.Elements.{All-nil, All-contains, All-filter, All-weaker, filter_passes}
+use Rattle.std.proofs.lemmas.List.Elements.{All-nil, All-contains, All-weaker, filter_passes}
 use Rattle.std.proofs.lemmas.List.Kept.{AllPairs-filter}
 use Rattle.std.proofs.lemmas.List.Quantifiers.{all_pairs_remove}
 use Rattle.std.proofs.lemmas.Map.Made.{is_member-Decides}
@@ -67,17 +67,19 @@ module _ (x : ℕ) where
   drop_where xs true h = refl
   drop_where xs false h = sym (drop_idle xs (λ m. true≢false (sym (h m))))
 
+-- a number that goes from one list of a table
+abbrev pub Drops : Table → Table → ℕ → ℕ → Type 0
+Drops t t' n x = (s : ℕ) → list_at t' s ≡ cond (s == n) (drop_item x (list_at t s)) (list_at t s)
+
 -- a number goes from one list more
 pub taken : (x : ℕ) (old now new : Table) (done : List ℕ) (b : ℕ) → ((n : ℕ) → list_at now n ≡ cond (is_in done n) (drop_item x (list_at old n)) (list_at old n))
-    → b < length now.lists → new.lists ≡ set now.lists b (drop_item x (list_at now b))
-    → (n : ℕ) → list_at new n ≡ cond (is_in (done ++ b ∷ []) n) (drop_item x (list_at old n)) (list_at old n)
-taken x old now new done b so within put n =
+    → Drops now new b x → (n : ℕ) → list_at new n ≡ cond (is_in (done ++ b ∷ []) n) (drop_item x (list_at old n)) (list_at old n)
+taken x old now new done b so put n =
     elim (cases_eq n b) [
-      | inl e ↦ ap (list_at new) e ∙ ap (λ (ls : List (List ℕ)). get_or ls b []) put ∙ get_or-set_same now.lists b (drop_item x (list_at now b)) [] within
-          ∙ ap (drop_item x) (so b) ∙ either (list_at old b) (is_in done b)
-          ∙ ap (λ k. drop_item x (list_at old k)) (sym e)
+      | inl e ↦ put n ∙ ap (λ w. cond w (drop_item x (list_at now n)) (list_at now n)) (alike n b e)
+          ∙ ap (drop_item x) (so n) ∙ either (list_at old n) (is_in done n)
           ∙ ap (λ w. cond w (drop_item x (list_at old n)) (list_at old n)) (sym (is_in-push_same done b n e))
-      | inr d ↦ ap (λ (ls : List (List ℕ)). get_or ls n []) put ∙ get_or-set_other now.lists b n (drop_item x (list_at now b)) [] d ∙ so n
+      | inr d ↦ put n ∙ ap (λ w. cond w (drop_item x (list_at now n)) (list_at now n)) (differ n b d) ∙ so n
           ∙ ap (λ w. cond w (drop_item x (list_at old n)) (list_at old n)) (sym (is_in-push_other done b n d))
     ]
   where
@@ -260,16 +262,14 @@ module _ (len : ℕ) (order places : List ℕ) (lowers uppers lowers' uppers' : 
   past_left t t' are s past none =
       are s (λ e. absurd (omega (arith, e, within, past))) ∙ ap (drop_item x) none
 
-  pub HasLinks-take : len ≤ length lowers'.lists → len ≤ length uppers'.lists → HasLinks len (remove order k) lowers' uppers'
-  HasLinks-take wl wu = record {
+  pub HasLinks-take : HasLinks len (remove order k) lowers' uppers'
+  HasLinks-take = record {
     lower_there = there_left lowers lowers' lower_none lower_left h.lower_there;
     upper_there = there_left uppers uppers' upper_none upper_left h.upper_there;
     turned = λ s u m. turned_left lowers lowers' uppers uppers' lower_none lower_left upper_left s u (h.turned s u) m;
     turned_back = λ s u m. turned_left uppers uppers' lowers lowers' upper_none upper_left lower_left u s (h.turned_back s u) m;
     lower_past = λ s past. past_left lowers lowers' lower_left s past (h.lower_past s past);
     upper_past = λ s past. past_left uppers uppers' upper_left s past (h.upper_past s past);
-    lower_wide = wl;
-    upper_wide = wu;
   }
 
 -- rows out of which x was taken where it stood
@@ -285,17 +285,12 @@ rows_taken x t v t' turn are = (
 
 -- ---- a rule that no longer stands below another
 
--- a number that goes from one list of a table
-pub record Drops (t t' : Table) (n x : ℕ) : Type 0 where
-  pub within : n < length t.lists
-  pub lists : t'.lists ≡ set t.lists n (drop_item x (list_at t n))
-
 module _ (t t' : Table) (n x : ℕ) (d : Drops t t' n x) where
   drops_here : list_at t' n ≡ drop_item x (list_at t n)
-  drops_here = ap (λ (ls : List (List ℕ)). get_or ls n []) d.lists ∙ get_or-set_same t.lists n (drop_item x (list_at t n)) [] d.within
+  drops_here = d n ∙ ap (λ b. cond b (drop_item x (list_at t n)) (list_at t n)) (alike n n refl)
 
   drops_other : (s : ℕ) → s ≢ n → list_at t' s ≡ list_at t s
-  drops_other s apart = ap (λ (ls : List (List ℕ)). get_or ls s []) d.lists ∙ get_or-set_other t.lists n s (drop_item x (list_at t n)) [] apart
+  drops_other s apart = d s ∙ ap (λ b. cond b (drop_item x (list_at t s)) (list_at t s)) (differ s n apart)
 
   -- what stands in a list stood there, and is not the one that went
   drops_from : (s u : ℕ) → Contains (list_at t' s) u → Contains (list_at t s) u × (s ≡ n → u ≢ x)
@@ -328,9 +323,6 @@ module _ (t t' : Table) (n x : ℕ) (d : Drops t t' n x) where
         | inr apart ↦ drops_other s apart ∙ none
       ]
 
-  drops_wide : length t'.lists ≡ length t.lists
-  drops_wide = ap length d.lists ∙ length-set t.lists n (drop_item x (list_at t n))
-
 pub HasLinks-drop : (len : ℕ) (order : List ℕ) (lowers uppers lowers' uppers' : Table) (u l : ℕ) → HasLinks len order lowers uppers
     → Drops lowers lowers' u l → Drops uppers uppers' l u → HasLinks len order lowers' uppers'
 HasLinks-drop len order lowers uppers lowers' uppers' u l h dl du = record {
@@ -344,8 +336,6 @@ HasLinks-drop len order lowers uppers lowers' uppers' u l h dl du = record {
       drops_keep lowers lowers' u l dl s t (h.turned_back s t from.0) (λ e f. from.1 f e);
   lower_past = λ s past. drops_past lowers lowers' u l dl s (h.lower_past s past);
   upper_past = λ s past. drops_past uppers uppers' l u du s (h.upper_past s past);
-  lower_wide = omega (arith, drops_wide lowers lowers' u l dl, h.lower_wide);
-  upper_wide = omega (arith, drops_wide uppers uppers' l u du, h.upper_wide);
 }
 
 pub by_place-drop : (order places : List ℕ) (t t' : Table) (k j u l : ℕ) → ((i : ℕ) → i < length order → place_in places (get_or order i 0) ≡ i)
@@ -367,25 +357,13 @@ by_place-drop order places t t' k j u l placed ltk ltj isu isl there d =
 
 -- ---- the steps of a rule that goes
 
-pub removed_at : (t t' : Table) (h x : ℕ) → h < length t.lists → t'.lists ≡ set t.lists h (drop_item x (list_at t h))
-    → (n : ℕ) → list_at t' n ≡ cond (n == h) (drop_item x (list_at t n)) (list_at t n)
-removed_at t t' h x within put n =
-    elim (cases_eq n h) [
-      | inl e ↦ ap (list_at t') e ∙ ap (λ (ls : List (List ℕ)). get_or ls h []) put ∙ get_or-set_same t.lists h (drop_item x (list_at t h)) [] within
-          ∙ ap (λ k. drop_item x (list_at t k)) (sym e) ∙ sym (ap (λ b. cond b (drop_item x (list_at t n)) (list_at t n)) (alike n h e))
-      | inr d ↦ ap (λ (ls : List (List ℕ)). get_or ls n []) put ∙ get_or-set_other t.lists h n (drop_item x (list_at t h)) [] d
-          ∙ sym (ap (λ b. cond b (drop_item x (list_at t n)) (list_at t n)) (differ n h d))
-    ]
-
 -- a list that is emptied at last
-pub cleared : (x : ℕ) (t t' : Table) (F : ℕ → List ℕ) → x < length t.lists → t'.lists ≡ set t.lists x [] → ((s : ℕ) → s ≢ x → list_at t s ≡ F s)
+pub cleared : (x : ℕ) (t t' : Table) (F : ℕ → List ℕ) → ((s : ℕ) → list_at t' s ≡ cond (s == x) [] (list_at t s)) → ((s : ℕ) → s ≢ x → list_at t s ≡ F s)
     → (s : ℕ) → list_at t' s ≡ cond (s == x) [] (F s)
-cleared x t t' F within put are s =
+cleared x t t' F put are s =
     elim (cases_eq s x) [
-      | inl e ↦ ap (list_at t') e ∙ ap (λ (ls : List (List ℕ)). get_or ls x []) put ∙ get_or-set_same t.lists x [] [] within
-          ∙ sym (ap (λ b. cond b [] (F s)) (alike s x e))
-      | inr d ↦ ap (λ (ls : List (List ℕ)). get_or ls s []) put ∙ get_or-set_other t.lists x s [] [] d ∙ are s d
-          ∙ sym (ap (λ b. cond b [] (F s)) (differ s x d))
+      | inl e ↦ put s ∙ ap (λ b. cond b [] (list_at t s)) (alike s x e) ∙ sym (ap (λ b. cond b [] (F s)) (alike s x e))
+      | inr d ↦ put s ∙ ap (λ b. cond b [] (list_at t s)) (differ s x d) ∙ are s d ∙ sym (ap (λ b. cond b [] (F s)) (differ s x d))
     ]
 
 -- another number is in a list with x and without
@@ -405,7 +383,3 @@ placed_more order places places' at distinct within lt before put k less there =
           ∙ get_or-set_other places (get_or order at 0) (get_or order k 0) at 0 (distinct k at 0 (omega (arith, less, d)) lt)
           ∙ before k (omega (arith, less, d)) there
     ]
-
-pub all_dropped : (P : ℕ → Type 0) (x : ℕ) (xs : List ℕ) (b : Bool) → All P xs → All P (cond b (drop_item x xs) xs)
-all_dropped P x xs true h = All-filter (λ y. not (y == x)) P xs h
-all_dropped P x xs false h = h

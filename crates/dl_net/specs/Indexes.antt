@@ -30,7 +30,7 @@ pub record HasRules (entries : List (Option Entry)) (order places : List ℕ) (h
   pub by_use : (n : ℕ) → list_at uses n ≡ filter (λ s. is_in (line_at entries s).body n) order
   pub as_wide : length heads.lists ≤ length uses.lists
 
--- a rule is above another in both tables, and each is there
+-- a rule is above another in both tables, and each is there; past the rules there is none
 pub record HasLinks (len : ℕ) (order : List ℕ) (lowers uppers : Table) : Type 0 where
   pub lower_there : (s : ℕ) → All (Contains order) (list_at lowers s)
   pub upper_there : (s : ℕ) → All (Contains order) (list_at uppers s)
@@ -38,8 +38,6 @@ pub record HasLinks (len : ℕ) (order : List ℕ) (lowers uppers : Table) : Typ
   pub turned_back : (s t : ℕ) → Contains (list_at uppers t) s → Contains (list_at lowers s) t
   pub lower_past : (s : ℕ) → len ≤ s → list_at lowers s ≡ []
   pub upper_past : (s : ℕ) → len ≤ s → list_at uppers s ≡ []
-  pub lower_wide : len ≤ length lowers.lists
-  pub upper_wide : len ≤ length uppers.lists
 
 -- the lists at the rules, by place
 abbrev pub by_place : List ℕ → List ℕ → Table → List (List ℕ)

@@ -1,6 +1,5 @@
 -- How the fields of an index hold its rules.
 use Rattle.std.specs.Prelude.{ℕ, ◌<◌, ◌^◌, Option, None, Some, List, length, map, All, Contains}
-use Rattle.std.specs.Vec.{vec_len, vec_capacity}
 use Rattle.dl_net.specs.declared.index.Index.TheInside.{Inside}
 use Rattle.dl_net.specs.declared.entry.Entry.{Entry}
 use Rattle.dl_net.specs.declared.entry.Between.{Between}
@@ -26,6 +25,7 @@ index_of a = record {
   lowers = by_place a.order.items a.places.items a.lowers;
   uppers = by_place a.order.items a.places.items a.uppers;
   width = length a.heads.lists;
+  numbers = length a.entries.items;
   ready = ready_of a.room;
   linking = linking_of a.places.items a.room;
 }
@@ -34,18 +34,18 @@ index_of a = record {
 pub record HasRuleRoom (a : Inside) (e : Entry) : Type 0 where
   pub fit : IsFit (length a.heads.lists) e
   pub few : length a.entries.items < 2 ^ 32
-  pub entries_room : vec_len a.entries < vec_capacity a.entries
-  pub order_room : vec_len a.order < vec_capacity a.order
-  pub places_room : vec_len a.places < vec_capacity a.places
+  pub entries_room : 0 < a.entries.spare
+  pub order_room : 0 < a.order.spare
+  pub places_room : 0 < a.places.spare
   pub heads_room : 0 < spare_at a.heads e.head
   pub uses_room : All (λ b. 0 < spare_at a.uses b) e.body.items
-  pub lowers_room : length a.entries.items < length a.lowers.lists
-  pub uppers_room : length a.entries.items < length a.uppers.lists
 
 -- room for one more rule below another
 pub record HasLinkRoom (a : Inside) (l : Between) : Type 0 where
   pub upper : Contains a.order.items l.upper
   pub lower : Contains a.order.items l.lower
+  pub lowers_wide : l.upper < length a.lowers.lists
+  pub uppers_wide : l.lower < length a.uppers.lists
   pub lowers_room : 0 < spare_at a.lowers l.upper
   pub uppers_room : 0 < spare_at a.uppers l.lower
 

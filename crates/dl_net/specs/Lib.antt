@@ -1,6 +1,9 @@
 pub mod Counting
+pub mod Row
+pub mod KeptRow
 pub mod Rows
 pub mod Numbers
+pub mod Listed
 pub mod Tables
 pub mod TablesView
 pub mod Lines

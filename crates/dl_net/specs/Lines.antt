@@ -1,11 +1,11 @@
 -- Rules by number, and the lists that lead to them.
-use Rattle.std.specs.Prelude.{◌≡◌, ℕ, ◌-◌, ◌<◌, ◌≤◌, ◌^◌, ◌==◌, nat_lt, Bool, not, cond, Option, None, Some, List, [], ◌∷◌, length, All, get_or, map, filter, Vec}
-use Rattle.std.specs.declared.alloc.Global.{Global}
+use Rattle.std.specs.Prelude.{◌≡◌, ℕ, ◌-◌, ◌<◌, ◌≤◌, ◌^◌, ◌==◌, nat_lt, Bool, not, cond, Option, None, Some, List, [], ◌∷◌, length, All, get_or, map, filter}
 use Rattle.std.specs.List.{list_any}
 use Rattle.dl_theory.specs.declared.rule.Kind.{Kind}
 use Rattle.dl_theory.specs.declared.rule.Kind.TheVariants.{Defeater}
 use Rattle.dl_theory.specs.Lists.{is_strict, can_support}
 use Rattle.dl_net.specs.Counting.{each_once}
+use Rattle.dl_net.specs.Row.{NumberList}
 use Rattle.dl_net.specs.declared.entry.Entry.{Entry}
 
 -- a rule by the numbers of its literals
@@ -39,18 +39,19 @@ pub record Meeting : Type 0 where
   pub upper : ℕ
   pub lower : ℕ
 
--- the rules by place; for each, those below it and those above it, by place; for how many literals there are lists; and the rule or
--- the two rules for which there is memory
+-- the rules by place; for each, those below it and those above it, by place; for how many literals there are lists; how many numbers
+-- rules have, or had before they went; and the rule or the two rules for which there is memory
 pub record IndexLists : Type 0 where
   pub lines : List Line
   pub lowers : List (List ℕ)
   pub uppers : List (List ℕ)
   pub width : ℕ
+  pub numbers : ℕ
   pub ready : Option Line
   pub linking : Option Meeting
 
 abbrev pub no_index : IndexLists
-no_index = record { lines = []; lowers = []; uppers = []; width = 0; ready = None; linking = None }
+no_index = record { lines = []; lowers = []; uppers = []; width = 0; numbers = 0; ready = None; linking = None }
 
 -- the rules stay, and no list of literals goes
 pub record KeepsRules (old new : IndexLists) : Type 0 where
@@ -58,6 +59,7 @@ pub record KeepsRules (old new : IndexLists) : Type 0 where
   pub lowers : new.lowers ≡ old.lowers
   pub uppers : new.uppers ≡ old.uppers
   pub wider : old.width ≤ new.width
+  pub numbers : new.numbers ≡ old.numbers
 
 -- the numbers are below the width
 abbrev pub IsWithin : ℕ → Line → Type 0
@@ -81,7 +83,7 @@ line_of None = no_line
 line_of (Some e) = record { kind = e.kind; head = e.head; body = e.body.items }
 
 -- the list that is there, or else the other
-abbrev pub once_or : Option (Vec ℕ Global) → List ℕ → List ℕ
+abbrev pub once_or : Option NumberList → List ℕ → List ℕ
 once_or None body = body
 once_or (Some once) body = once.items
 

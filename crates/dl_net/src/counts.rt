@@ -6,6 +6,7 @@ ghost use Rattle.dl_net.specs.Lines.{passes, line_of};
 ghost use Rattle.dl_net.specs.Indexes.{line_at};
 
 use crate::entry::Entry;
+use crate::table::Table;
 use dl_theory::Kind;
 
 /// Whether a rule of this kind supports its head.
@@ -40,14 +41,14 @@ fn kind_of(entry: &Option<Entry>) -> Kind
 }
 
 /// How many of the rules are strict, or else can support their heads.
-pub(crate) fn count(entries: &[Option<Entry>], rules: &[u32], strict: bool) -> usize
-    requires { All (λ s. s < length entries.now) rules.now }
-    ensures value { result ≡ length (filter (λ s. passes strict (line_at entries.now s).kind) rules.now) }
+pub(crate) fn count(entries: &Table<Option<Entry>>, rules: &[u32], strict: bool) -> usize
+    requires { All (λ s. s < length entries.now.items) rules.now }
+    ensures value { result ≡ length (filter (λ s. passes strict (line_at entries.now.items s).kind) rules.now) }
     ensures few { result ≤ length rules.now }
 {
     let mut count = 0;
     for rule in rules {
-        if passes(kind_of(&entries[*rule as usize]), strict) {
+        if passes(kind_of(entries.at(*rule as usize)), strict) {
             count += 1;
         }
     }

@@ -5,6 +5,7 @@ ghost use Rattle.dl_theory.specs.Edits.{IsAccepted, IsStopped, after_edit};
 ghost use Rattle.dl_net.specs.Edited.{edit_literals};
 ghost use Rattle.dl_net.specs.Named.{IsNear, Grows};
 
+use crate::index::Index;
 use crate::load::index_of;
 use crate::net::Net;
 use crate::number::mark_facts;
@@ -29,6 +30,7 @@ impl Net {
         ensures frozen { self.new.frozen ≡ false }
     {
         self.forget();
+        self.renumber();
         let ready = Ready { edit: edit.copy()? };
         self.stage(edit)?;
         Ok(ready)
@@ -74,7 +76,7 @@ impl Net {
         ensures pending { IfOk result (λ net. net.pending ≡ None) }
         ensures frozen { IfOk result (λ net. IsTrue net.frozen) }
     {
-        let alloc = *self.facts.allocator();
+        let alloc = self.facts.alloc();
         // each literal has a number in the shared names, so these two find it there
         let mut names = self.names.share()?;
         let theory = self.staged.copy()?;
@@ -97,7 +99,7 @@ impl Net {
     {
         self.staged.stage(edit)?;
         let room = take_room(
-            *self.facts.allocator(),
+            self.facts.alloc(),
             edit,
             &self.staged,
             &mut self.names,
@@ -113,6 +115,25 @@ impl Net {
         }
     }
 
+    /// Makes the index anew where most of its inner numbers are empty. Where there is no memory for that, it stays.
+    fn renumber(&mut self)
+        requires { self.old.pending ≡ None }
+        ensures theory { self.new.theory ≡ self.old.theory }
+        ensures names { self.new.names ≡ self.old.names }
+        ensures pending { self.new.pending ≡ None }
+        ensures frozen { self.new.frozen ≡ self.old.frozen }
+    {
+        if !self.index.is_sparse() {
+            return;
+        }
+        let alloc = self.facts.alloc();
+        // each literal has a number, so that the names stay as they are
+        match index_of(alloc, &mut self.names, self.staged.settled()) {
+            Err(Memory) => {}
+            Ok(index) => replace_index(&mut self.index, index),
+        }
+    }
+
     /// Forgets what was prepared. The net can no longer be shared.
     fn forget(&mut self)
         ensures theory { self.new.theory ≡ self.old.theory }
@@ -123,4 +144,11 @@ impl Net {
         self.staged.forget();
         self.frozen = false;
     }
+}
+
+/// Puts an index in the place of another, which is let go.
+fn replace_index(place: &mut Index, index: Index)
+    ensures { place.new ≡ index }
+{
+    *place = index;
 }

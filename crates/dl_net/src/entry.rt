@@ -3,8 +3,8 @@
 ghost use Rattle.std.specs.Prelude.{◌≡◌};
 ghost use Rattle.dl_net.specs.Lines.{once_list};
 
+use crate::row::Row;
 use dl_theory::Kind;
-use smallvec::SmallVec;
 
 /// A rule whose literals are numbers.
 #[derive(Drop)]
@@ -12,9 +12,9 @@ pub(crate) struct Entry {
     pub kind: Kind,
     pub head: u32,
     /// The numbers of the body in its order, with repeats.
-    pub body: SmallVec<u32, 4>,
+    pub body: Row,
     /// The numbers of the body, each where it first stands; `None` where none stands twice.
-    pub once: Option<Vec<u32>>,
+    pub once: Option<Row>,
 }
 
 impl Entry {

@@ -2,8 +2,9 @@
 //!
 //! Inside, a rule has a number that does not move; callers name it by its place in the list. A rule that goes leaves its
 //! number empty, and no other rule's body, index or number changes. As long as none has gone, place and number are the same.
+//! An index most of whose numbers are empty is made anew by the net.
 
-ghost use Rattle.std.specs.Prelude.{◌≡◌, ℕ, ◌+◌, ◌<◌, ◌≤◌, ◌^◌, [], ◌∷◌, ◌++◌, All, Some, None, IsSome, IfSome, OnOk, OnErr, option_to_list, length, filter, slice_get, get_or, set, map, remove};
+ghost use Rattle.std.specs.Prelude.{◌≡◌, ℕ, ◌+◌, ◌<◌, ◌≤◌, ◌^◌, ◌↔◌, [], ◌∷◌, ◌++◌, All, IsTrue, Some, None, IsSome, IfSome, IfNone, OnOk, OnErr, option_to_list, length, filter, slice_get, get_or, set, map, remove};
 ghost use Rattle.dl_theory.specs.Lists.{is_strict, can_support};
 ghost use Rattle.dl_net.specs.Counting.{each_once};
 ghost use Rattle.dl_net.specs.Rows.{places, row};
@@ -13,8 +14,9 @@ ghost use Rattle.dl_net.specs.Indexes.{place_in, IsStill};
 
 use crate::counts::{can_support, count, passes};
 use crate::entry::{Between, Entry, Room};
-use crate::put::{put_rule, reserve_rule, widen};
+use crate::put::{put_rule, reserve_at, reserve_rule, widen};
 use crate::rows::RowTable;
+use crate::table::Table;
 use crate::take::{place_from, take_links, take_rule};
 use dl_base::Memory;
 use dl_theory::Kind;
@@ -24,9 +26,9 @@ use std::mem;
 
 #[derive(Drop)]
 pub(crate) struct Index {
-    entries: Vec<Option<Entry>>,
-    order: Vec<u32>,
-    places: Vec<u32>,
+    entries: Table<Option<Entry>>,
+    order: Table<u32>,
+    places: Table<u32>,
     heads: RowTable,
     uses: RowTable,
     lowers: RowTable,
@@ -51,9 +53,9 @@ impl Index {
         ensures { result ≡ no_index }
     {
         Index {
-            entries: Vec::new(alloc),
-            order: Vec::new(alloc),
-            places: Vec::new(alloc),
+            entries: Table::make(alloc),
+            order: Table::make(alloc),
+            places: Table::make(alloc),
             heads: RowTable::make(alloc),
             uses: RowTable::make(alloc),
             lowers: RowTable::make(alloc),
@@ -86,9 +88,6 @@ impl Index {
         ensures linking { self.new.linking ≡ None }
     {
         self.room = Room::Nothing;
-        let count = self.entries.len() + 1;
-        widen(&mut self.lowers, count)?;
-        widen(&mut self.uppers, count)?;
         reserve_rule(
             &mut self.entries,
             &mut self.order,
@@ -108,6 +107,7 @@ impl Index {
         ensures lowers { self.new.lowers ≡ self.old.lowers ++ [] ∷ [] }
         ensures uppers { self.new.uppers ≡ self.old.uppers ++ [] ∷ [] }
         ensures width { self.new.width ≡ self.old.width }
+        ensures numbers { self.new.numbers ≡ self.old.numbers + 1 }
         ensures ready { self.new.ready ≡ None }
         ensures linking { self.new.linking ≡ None }
     {
@@ -135,10 +135,10 @@ impl Index {
         ensures ready { self.new.ready ≡ None }
     {
         self.room = Room::Nothing;
-        let upper = number_at(self.order.as_slice(), self.places.len(), upper);
-        let lower = number_at(self.order.as_slice(), self.places.len(), lower);
-        self.lowers.reserve(upper as usize)?;
-        self.uppers.reserve(lower as usize)?;
+        let upper = read(&self.order, upper);
+        let lower = read(&self.order, lower);
+        reserve_at(&mut self.lowers, upper)?;
+        reserve_at(&mut self.uppers, lower)?;
         self.room = Room::ForLink(Between { upper, lower });
         Ok(())
     }
@@ -150,6 +150,7 @@ impl Index {
         ensures lowers { IfSome self.old.linking (λ m. self.new.lowers ≡ set self.old.lowers m.upper (list_of self.old.lowers m.upper ++ m.lower ∷ [])) }
         ensures uppers { IfSome self.old.linking (λ m. self.new.uppers ≡ set self.old.uppers m.lower (list_of self.old.uppers m.lower ++ m.upper ∷ [])) }
         ensures width { self.new.width ≡ self.old.width }
+        ensures numbers { self.new.numbers ≡ self.old.numbers }
         ensures ready { self.new.ready ≡ None }
         ensures linking { self.new.linking ≡ None }
     {
@@ -171,15 +172,16 @@ impl Index {
         ensures lowers { self.new.lowers ≡ map (list_without place) (remove self.old.lowers place) }
         ensures uppers { self.new.uppers ≡ map (list_without place) (remove self.old.uppers place) }
         ensures width { self.new.width ≡ self.old.width }
+        ensures numbers { self.new.numbers ≡ self.old.numbers }
         ensures ready { self.new.ready ≡ None }
         ensures linking { self.new.linking ≡ None }
     {
         self.room = Room::Nothing;
-        let rule = number_at(self.order.as_slice(), self.places.len(), place);
+        let rule = read(&self.order, place);
         take_rule(&mut self.entries, &mut self.heads, &mut self.uses, rule);
         take_links(&mut self.lowers, &mut self.uppers, rule);
         self.order.remove(place);
-        place_from(&mut self.places, self.order.as_slice(), place);
+        place_from(&mut self.places, &self.order, place);
     }
 
     /// The rule at one place no longer stands below the rule at another. Takes no memory.
@@ -190,14 +192,27 @@ impl Index {
         ensures lowers { self.new.lowers ≡ set self.old.lowers upper (drop_item lower (list_of self.old.lowers upper)) }
         ensures uppers { self.new.uppers ≡ set self.old.uppers lower (drop_item upper (list_of self.old.uppers lower)) }
         ensures width { self.new.width ≡ self.old.width }
+        ensures numbers { self.new.numbers ≡ self.old.numbers }
         ensures ready { self.new.ready ≡ None }
         ensures linking { self.new.linking ≡ None }
     {
         self.room = Room::Nothing;
-        let upper = number_at(self.order.as_slice(), self.places.len(), upper);
-        let lower = number_at(self.order.as_slice(), self.places.len(), lower);
+        let upper = read(&self.order, upper);
+        let lower = read(&self.order, lower);
         self.lowers.remove(upper as usize, lower);
         self.uppers.remove(lower as usize, upper);
+    }
+
+    /// Whether more numbers are empty than there are rules and literals together.
+    pub fn is_sparse(&self) -> bool
+        ensures { IsTrue result ↔ (length self.now.lines + length self.now.lines + self.now.width < self.now.numbers) }
+    {
+        let rules = self.order.len();
+        let empty = self.entries.len() - rules;
+        if empty <= rules {
+            return false;
+        }
+        empty - rules > self.heads.len()
     }
 
     /// How many rules there are.
@@ -225,7 +240,7 @@ impl Index {
         requires { rule < length self.now.lines }
         ensures { result ≡ slice_get (get_or self.now.lines rule no_line).body at }
     {
-        match self.entry(rule).body.get(at) {
+        match self.entry(rule).body.as_slice().get(at) {
             None => None,
             Some(number) => Some(*number as usize),
         }
@@ -294,8 +309,8 @@ impl Index {
         ensures once { once_list result.now ≡ each_once result.now.body.items }
         ensures short { length result.now.body.items < 2 ^ 26 }
     {
-        let inner = number_at(self.order.as_slice(), self.places.len(), rule);
-        match &self.entries[inner as usize] {
+        let inner = number_at(&self.order, self.places.len(), rule);
+        match self.entries.at(inner) {
             None => unreachable!(),
             Some(entry) => entry,
         }
@@ -305,13 +320,7 @@ impl Index {
     pub fn heads_at(&self, number: usize, at: usize) -> Option<usize>
         ensures { result ≡ slice_get (places heads_row self.now.lines number) at }
     {
-        place_at(
-            &self.heads,
-            self.places.as_slice(),
-            self.order.len(),
-            number,
-            at,
-        )
+        place_at(&self.heads, &self.places, self.order.len(), number, at)
     }
 
     pub fn heads_len(&self, number: usize) -> usize
@@ -326,20 +335,14 @@ impl Index {
         ensures value { result ≡ length (places (kind_row strict) self.now.lines number) }
         ensures few { result ≤ length self.now.lines }
     {
-        count(self.entries.as_slice(), self.heads.row(number), strict)
+        count(&self.entries, self.heads.row(number), strict)
     }
 
     /// The place of the rule at a place among those that have this literal in the body.
     pub fn uses_at(&self, number: usize, at: usize) -> Option<usize>
         ensures { result ≡ slice_get (places uses_row self.now.lines number) at }
     {
-        place_at(
-            &self.uses,
-            self.places.as_slice(),
-            self.order.len(),
-            number,
-            at,
-        )
+        place_at(&self.uses, &self.places, self.order.len(), number, at)
     }
 
     pub fn uses_len(&self, number: usize) -> usize
@@ -352,101 +355,99 @@ impl Index {
     pub fn lower_at(&self, rule: usize, at: usize) -> Option<usize>
         ensures { result ≡ slice_get (list_of self.now.lowers rule) at }
     {
-        if rule >= self.order.len() {
-            return None;
+        match number_of(&self.order, self.places.len(), rule) {
+            None => None,
+            Some(inner) => place_at(&self.lowers, &self.places, self.order.len(), inner, at),
         }
-        let inner = number_at(self.order.as_slice(), self.places.len(), rule);
-        place_at(
-            &self.lowers,
-            self.places.as_slice(),
-            self.order.len(),
-            inner as usize,
-            at,
-        )
     }
 
     pub fn lower_len(&self, rule: usize) -> usize
         ensures { result ≡ length (list_of self.now.lowers rule) }
     {
-        if rule >= self.order.len() {
-            return 0;
+        match number_of(&self.order, self.places.len(), rule) {
+            None => 0,
+            Some(inner) => self.lowers.count(inner),
         }
-        let inner = number_at(self.order.as_slice(), self.places.len(), rule);
-        self.lowers.count(inner as usize)
     }
 
     /// The place of the rule at a place among those above one.
     pub fn upper_at(&self, rule: usize, at: usize) -> Option<usize>
         ensures { result ≡ slice_get (list_of self.now.uppers rule) at }
     {
-        if rule >= self.order.len() {
-            return None;
+        match number_of(&self.order, self.places.len(), rule) {
+            None => None,
+            Some(inner) => place_at(&self.uppers, &self.places, self.order.len(), inner, at),
         }
-        let inner = number_at(self.order.as_slice(), self.places.len(), rule);
-        place_at(
-            &self.uppers,
-            self.places.as_slice(),
-            self.order.len(),
-            inner as usize,
-            at,
-        )
     }
 
     pub fn upper_len(&self, rule: usize) -> usize
         ensures { result ≡ length (list_of self.now.uppers rule) }
     {
-        if rule >= self.order.len() {
-            return 0;
+        match number_of(&self.order, self.places.len(), rule) {
+            None => 0,
+            Some(inner) => self.uppers.count(inner),
         }
-        let inner = number_at(self.order.as_slice(), self.places.len(), rule);
-        self.uppers.count(inner as usize)
     }
 
     /// How many of the rules above one can support their heads.
     pub fn upper_count(&self, rule: usize) -> usize
         ensures { result ≡ length (filter (λ t. can_support (get_or self.now.lines t no_line).kind) (list_of self.now.uppers rule)) }
     {
-        if rule >= self.order.len() {
-            return 0;
+        match number_of(&self.order, self.places.len(), rule) {
+            None => 0,
+            Some(inner) => count(&self.entries, self.uppers.row(inner), false),
         }
-        let inner = number_at(self.order.as_slice(), self.places.len(), rule);
-        count(
-            self.entries.as_slice(),
-            self.uppers.row(inner as usize),
-            false,
-        )
     }
 }
 
 /// The place of the rule at a place of a list, where there are so many rules.
 fn place_at(
     rows: &RowTable,
-    places: &[u32],
+    places: &Table<u32>,
     rules: usize,
     number: usize,
     at: usize,
 ) -> Option<usize>
-    requires within { All (λ s. s < length places.now) (list_at rows.now number) }
-    requires still { length places.now ≡ rules → IsStill places.now }
-    ensures { result ≡ slice_get (map (place_in places.now) (list_at rows.now number)) at }
+    requires within { All (λ s. s < length places.now.items) (list_at rows.now number) }
+    requires still { length places.now.items ≡ rules → IsStill places.now.items }
+    ensures { result ≡ slice_get (map (place_in places.now.items) (list_at rows.now number)) at }
 {
     match rows.get(number, at) {
         None => None,
-        Some(inner) => Some(number_at(places, rules, inner as usize) as usize),
+        Some(inner) => Some(number_at(places, rules, inner as usize)),
     }
+}
+
+/// The number of the rule at a place of the order, where there are so many places. `None` exactly past the end.
+fn number_of(order: &Table<u32>, places: usize, rule: usize) -> Option<usize>
+    requires { length order.now.items ≡ places → IsStill order.now.items }
+    ensures there { IfSome result (λ s. (rule < length order.now.items) × (s ≡ get_or order.now.items rule 0)) }
+    ensures past { IfNone result (length order.now.items ≤ rule) }
+{
+    if rule >= order.len() {
+        return None;
+    }
+    Some(number_at(order, places, rule))
 }
 
 /// The number at a place of `order` or of `places`, where the other of the two has so many. As long as no rule was dropped
 /// they are as long, and each number stands at its own place. Then the list is not read: a walk along the rules would miss
 /// the cache at each of these reads.
-fn number_at(numbers: &[u32], others: usize, at: usize) -> u32
-    requires within { at < length numbers.now }
-    requires still { length numbers.now ≡ others → IsStill numbers.now }
-    ensures { result ≡ get_or numbers.now at 0 }
+fn number_at(numbers: &Table<u32>, others: usize, at: usize) -> usize
+    requires within { at < length numbers.now.items }
+    requires still { length numbers.now.items ≡ others → IsStill numbers.now.items }
+    ensures { result ≡ get_or numbers.now.items at 0 }
 {
     if numbers.len() == others {
-        at as u32
+        at
     } else {
-        numbers[at]
+        read(numbers, at) as usize
     }
+}
+
+fn read(numbers: &Table<u32>, at: usize) -> u32
+    requires { at < length numbers.now.items }
+    ensures { result ≡ get_or numbers.now.items at 0 }
+{
+    *numbers.at(at)
 }

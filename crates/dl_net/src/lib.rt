@@ -17,8 +17,10 @@ mod region;
 #[cfg(test)]
 mod region_tests;
 mod room;
+mod row;
 mod rows;
 mod staged;
+mod table;
 mod tables;
 mod take;
 

@@ -31,17 +31,19 @@ pub(crate) fn other(number: usize) -> usize
     }
 }
 
-/// The index of a whole theory, whose rules' literals get numbers beside their complements where they have none.
+/// The index of a whole theory, whose rules' literals get numbers beside their complements where they have none. No inner number
+/// is empty.
 pub(crate) fn index_of(alloc: Global, names: &mut Names, theory: &Theory) -> Result<Index, Memory>
     requires { IsPaired names.old.literals }
     ensures paired { OnOk result (IsPaired names.new.literals) }
     ensures distinct { OnOk result (IsDistinct names.new.literals) }
     ensures grown { OnOk result (Grows (λ _. Unit {0}) names.old.literals names.new.literals) }
     ensures there { OnOk result (All (HasLiterals names.new.literals) theory.now.rules) }
-    ensures same { OnOk result (All (HasLiterals names.old.literals) theory.now.rules → names.new ≡ names.old) }
+    ensures same { All (HasLiterals names.old.literals) theory.now.rules → names.new ≡ names.old }
     ensures lines { IfOk result (λ index. index.lines ≡ map (line_in names.new.literals) theory.now.rules) }
     ensures lowers { IfOk result (λ index. index.lowers ≡ map (λ t. flat_map (λ p. lower_step theory.now p t) theory.now.pairs) theory.now.rules) }
     ensures uppers { IfOk result (λ index. index.uppers ≡ map (λ u. flat_map (λ p. upper_step theory.now p u) theory.now.pairs) theory.now.rules) }
+    ensures numbers { IfOk result (λ index. index.numbers ≡ length theory.now.rules) }
 {
     let mut index = Index::make(alloc);
     load_rules(alloc, names, &mut index, theory.rules())?;
@@ -61,7 +63,7 @@ pub(crate) fn room_for_rule(
     ensures distinct { IsDistinct names.new.literals }
     ensures grown { Grows (IsNear (rule.now.head ∷ rule.now.body)) names.old.literals names.new.literals }
     ensures there { OnOk result (HasLiterals names.new.literals rule.now) }
-    ensures same { OnOk result (HasLiterals names.old.literals rule.now → names.new ≡ names.old) }
+    ensures same { HasLiterals names.old.literals rule.now → names.new ≡ names.old }
     ensures kept { KeepsRules index.old index.new }
     ensures ready { OnOk result (index.new.ready ≡ Some (line_in names.new.literals rule.now)) }
 {
@@ -81,14 +83,16 @@ fn load_rules(
     requires lines { index.old.lines ≡ [] }
     requires lowers { index.old.lowers ≡ [] }
     requires uppers { index.old.uppers ≡ [] }
+    requires numbers { index.old.numbers ≡ 0 }
     ensures paired { OnOk result (IsPaired names.new.literals) }
     ensures distinct { OnOk result (IsDistinct names.new.literals) }
     ensures grown { OnOk result (Grows (λ _. Unit {0}) names.old.literals names.new.literals) }
     ensures there { OnOk result (All (HasLiterals names.new.literals) rules.now) }
-    ensures same { OnOk result (All (HasLiterals names.old.literals) rules.now → names.new ≡ names.old) }
+    ensures same { All (HasLiterals names.old.literals) rules.now → names.new ≡ names.old }
     ensures lines { OnOk result (index.new.lines ≡ map (line_in names.new.literals) rules.now) }
     ensures lowers { OnOk result (index.new.lowers ≡ map (λ _. []) rules.now) }
     ensures uppers { OnOk result (index.new.uppers ≡ map (λ _. []) rules.now) }
+    ensures numbers { OnOk result (index.new.numbers ≡ length rules.now) }
 {
     let _count = names.len();
     for rule in rules {
@@ -107,6 +111,7 @@ pub(crate) fn load_pairs(index: &mut Index, names: &Names, theory: &Theory) -> R
     requires lowers { index.old.lowers ≡ map (λ _. []) theory.now.rules }
     requires uppers { index.old.uppers ≡ map (λ _. []) theory.now.rules }
     ensures lines { OnOk result (index.new.lines ≡ index.old.lines) }
+    ensures numbers { OnOk result (index.new.numbers ≡ index.old.numbers) }
     ensures lowers { OnOk result (index.new.lowers ≡ map (λ t. flat_map (λ p. lower_step theory.now p t) theory.now.pairs) theory.now.rules) }
     ensures uppers { OnOk result (index.new.uppers ≡ map (λ u. flat_map (λ p. upper_step theory.now p u) theory.now.pairs) theory.now.rules) }
 {
@@ -124,6 +129,7 @@ fn load_pair(index: &mut Index, names: &Names, theory: &Theory, pair: &Pair) -> 
     requires lines { index.old.lines ≡ map (line_in names.now.literals) theory.now.rules }
     requires labels { HasBoth theory.now pair.now }
     ensures lines { OnOk result (index.new.lines ≡ index.old.lines) }
+    ensures numbers { OnOk result (index.new.numbers ≡ index.old.numbers) }
     ensures lowers { OnOk result ((F : Rule → List ℕ) → index.old.lowers ≡ map F theory.now.rules → index.new.lowers ≡ map (λ t. F t ++ lower_step theory.now pair.now t) theory.now.rules) }
     ensures uppers { OnOk result ((F : Rule → List ℕ) → index.old.uppers ≡ map F theory.now.rules → index.new.uppers ≡ map (λ u. F u ++ upper_step theory.now pair.now u) theory.now.rules) }
 {

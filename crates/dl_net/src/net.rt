@@ -14,6 +14,7 @@ use crate::link::Link;
 use crate::load::{index_of, other};
 use crate::number::mark_facts;
 use crate::staged::Staged;
+use crate::table::Table;
 use dl_base::Memory;
 use dl_lit::{Literal, Names};
 use dl_theory::{Pair, Rule, Theory};
@@ -28,7 +29,7 @@ pub struct Net {
     pub(crate) staged: Staged,
     pub(crate) names: Names,
     /// By number, whether the literal is a fact.
-    pub(crate) facts: Vec<bool>,
+    pub(crate) facts: Table<bool>,
     pub(crate) index: Index,
     pub(crate) frozen: bool,
 }
@@ -54,7 +55,7 @@ impl Net {
     {
         let theory = Theory::make(alloc);
         let names = Names::make(alloc);
-        let facts = Vec::new(alloc);
+        let facts = Table::make(alloc);
         let index = Index::make(alloc);
         Net::whole(theory, names, facts, index, false)
     }
@@ -75,7 +76,7 @@ impl Net {
     pub(crate) fn whole(
         theory: Theory,
         names: Names,
-        facts: Vec<bool>,
+        facts: Table<bool>,
         index: Index,
         frozen: bool,
     ) -> Net
@@ -159,10 +160,7 @@ impl Net {
         requires { number < length self.now.names }
         ensures { result ≡ is_fact self.now number }
     {
-        match self.facts.get(number) {
-            None => false,
-            Some(mark) => *mark,
-        }
+        number < self.facts.len() && *self.facts.at(number)
     }
 
     pub fn facts_len(&self) -> usize

@@ -8,11 +8,12 @@ ghost use Rattle.dl_net.specs.Counting.{each_once};
 ghost use Rattle.dl_net.specs.Lines.{line_of, once_or, once_list};
 
 use crate::entry::Entry;
+use crate::row::Row;
+use crate::table::Table;
 use dl_base::Memory;
 use dl_lit::{Literal, Names};
 use dl_theory::{Kind, Rule};
 use indexmap::IndexSet;
-use smallvec::SmallVec;
 use std::alloc::Global;
 
 /// Bodies are shorter, so that what a node of a fill waits for is counted in few bits.
@@ -26,7 +27,7 @@ pub(crate) fn number_literal(names: &mut Names, literal: &Literal) -> Result<u32
     ensures grown { Grows (IsNear (literal.now ∷ [])) names.old.literals names.new.literals }
     ensures there { OnOk result (Contains names.new.literals literal.now) }
     ensures number { IfOk result (λ n. n ≡ number_in names.new.literals literal.now) }
-    ensures same { OnOk result (Contains names.old.literals literal.now → names.new ≡ names.old) }
+    ensures same { Contains names.old.literals literal.now → names.new ≡ names.old }
 {
     match names.find(literal) {
         Some(number) => narrow(number),
@@ -49,11 +50,7 @@ fn narrow(number: usize) -> Result<u32, Memory>
 }
 
 /// The numbers of literals, which get some beside their complements where they have none.
-fn number_literals(
-    alloc: Global,
-    names: &mut Names,
-    literals: &[Literal],
-) -> Result<SmallVec<u32, 4>, Memory>
+fn number_literals(alloc: Global, names: &mut Names, literals: &[Literal]) -> Result<Row, Memory>
     requires paired { IsPaired names.old.literals }
     requires distinct { IsDistinct names.old.literals }
     ensures paired { IsPaired names.new.literals }
@@ -61,11 +58,11 @@ fn number_literals(
     ensures grown { Grows (IsNear literals.now) names.old.literals names.new.literals }
     ensures there { OnOk result (All (Contains names.new.literals) literals.now) }
     ensures numbers { IfOk result (λ v. v.items ≡ map (number_in names.new.literals) literals.now) }
-    ensures same { OnOk result (All (Contains names.old.literals) literals.now → names.new ≡ names.old) }
+    ensures same { All (Contains names.old.literals) literals.now → names.new ≡ names.old }
 {
-    let mut numbers = SmallVec::new(alloc);
+    let mut numbers = Row::make();
     for literal in literals {
-        numbers.push(number_literal(names, literal)?)?;
+        numbers.push(alloc, number_literal(names, literal)?)?;
     }
     Ok(numbers)
 }
@@ -80,7 +77,7 @@ pub(crate) fn number_rule(alloc: Global, names: &mut Names, rule: &Rule) -> Resu
     ensures line { IfOk result (λ e. line_of (Some e) ≡ line_in names.new.literals rule.now) }
     ensures once { IfOk result (λ e. once_list e ≡ each_once e.body.items) }
     ensures short { IfOk result (λ e. length e.body.items < 2 ^ 26) }
-    ensures same { OnOk result (HasLiterals names.old.literals rule.now → names.new ≡ names.old) }
+    ensures same { HasLiterals names.old.literals rule.now → names.new ≡ names.old }
 {
     let head = number_literal(names, &rule.head)?;
     let body = number_literals(alloc, names, rule.body.as_slice())?;
@@ -88,7 +85,7 @@ pub(crate) fn number_rule(alloc: Global, names: &mut Names, rule: &Rule) -> Resu
 }
 
 /// A rule of these numbers.
-fn entry_of(alloc: Global, kind: Kind, head: u32, body: SmallVec<u32, 4>) -> Result<Entry, Memory>
+fn entry_of(alloc: Global, kind: Kind, head: u32, body: Row) -> Result<Entry, Memory>
     ensures line { IfOk result (λ e. line_of (Some e) ≡ record { kind = kind; head = head; body = body.items }) }
     ensures once { IfOk result (λ e. once_list e ≡ each_once e.body.items) }
     ensures short { IfOk result (λ e. length e.body.items < 2 ^ 26) }
@@ -106,7 +103,7 @@ fn entry_of(alloc: Global, kind: Kind, head: u32, body: SmallVec<u32, 4>) -> Res
 }
 
 /// The numbers, each where it first stands; `None` where none stands twice.
-fn once_of(alloc: Global, numbers: &[u32]) -> Result<Option<Vec<u32>>, Memory>
+fn once_of(alloc: Global, numbers: &[u32]) -> Result<Option<Row>, Memory>
     ensures { IfOk result (λ once. once_or once numbers.now ≡ each_once numbers.now) }
 {
     // most bodies are short and without repeats, and need no memory
@@ -134,14 +131,14 @@ fn once_len(numbers: &[u32]) -> usize
 }
 
 /// The numbers, each where it first stands.
-fn firsts(alloc: Global, numbers: &[u32]) -> Result<Vec<u32>, Memory>
+fn firsts(alloc: Global, numbers: &[u32]) -> Result<Row, Memory>
     ensures { IfOk result (λ once. once.items ≡ each_once numbers.now) }
 {
     let mut seen = IndexSet::new(alloc);
-    let mut once = Vec::new(alloc);
+    let mut once = Row::make();
     for number in numbers {
         if seen.insert(*number)? {
-            once.push(*number)?;
+            once.push(alloc, *number)?;
         }
     }
     Ok(once)
@@ -150,7 +147,7 @@ fn firsts(alloc: Global, numbers: &[u32]) -> Result<Vec<u32>, Memory>
 /// The number of a fact, which gets one beside its complement if it has none, and a mark that is not set.
 pub(crate) fn number_fact(
     names: &mut Names,
-    marks: &mut Vec<bool>,
+    marks: &mut Table<bool>,
     fact: &Literal,
 ) -> Result<u32, Memory>
     requires { IsPaired names.old.literals }
@@ -165,13 +162,13 @@ pub(crate) fn number_fact(
 {
     let number = number_literal(names, fact)?;
     if marks.len() < names.len() {
-        marks.resize(names.len(), false)?;
+        marks.widen(names.len(), false)?;
     }
     Ok(number)
 }
 
 /// Marks one more fact, by its number.
-fn mark_fact(names: &mut Names, marks: &mut Vec<bool>, fact: &Literal) -> Result<(), Memory>
+fn mark_fact(names: &mut Names, marks: &mut Table<bool>, fact: &Literal) -> Result<(), Memory>
     requires { IsPaired names.old.literals }
     ensures paired { OnOk result (IsPaired names.new.literals) }
     ensures distinct { OnOk result (IsDistinct names.new.literals) }
@@ -181,7 +178,7 @@ fn mark_fact(names: &mut Names, marks: &mut Vec<bool>, fact: &Literal) -> Result
     ensures marks { OnOk result ((qs : List Literal) → HasFacts names.new.literals qs marks.old.items → HasFacts names.new.literals (qs ++ fact.now ∷ []) marks.new.items) }
 {
     let number = number_fact(names, marks, fact)?;
-    marks[number as usize] = true;
+    marks.write(number as usize, true);
     Ok(())
 }
 
@@ -190,14 +187,14 @@ pub(crate) fn mark_facts(
     alloc: Global,
     names: &mut Names,
     facts: &[Literal],
-) -> Result<Vec<bool>, Memory>
+) -> Result<Table<bool>, Memory>
     requires { IsPaired names.old.literals }
     ensures paired { OnOk result (IsPaired names.new.literals) }
     ensures there { OnOk result (All (Contains names.new.literals) facts.now) }
     ensures same { OnOk result (All (Contains names.old.literals) facts.now → names.new ≡ names.old) }
     ensures marks { IfOk result (λ marks. HasFacts names.new.literals facts.now marks.items) }
 {
-    let mut marks = Vec::new(alloc);
+    let mut marks = Table::make(alloc);
     for fact in facts {
         mark_fact(names, &mut marks, fact)?;
     }

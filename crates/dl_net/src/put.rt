@@ -1,11 +1,12 @@
 //! One more rule, in room that is there.
 
-ghost use Rattle.std.specs.Prelude.{◌≡◌, ℕ, ◌+◌, ◌<◌, ◌≤◌, ◌^◌, max, [], ◌∷◌, ◌++◌, All, Some, length, vec_len, vec_capacity, OnOk, if◌then◌else◌, set};
+ghost use Rattle.std.specs.Prelude.{◌≡◌, ℕ, ◌+◌, ◌<◌, ◌≤◌, ◌^◌, max, [], ◌∷◌, ◌++◌, All, Some, length, OnOk, if◌then◌else◌, set};
 ghost use Rattle.dl_net.specs.Tables.{list_at, spare_at, KeepsLists};
 ghost use Rattle.dl_net.specs.Lines.{is_in, list_of, line_of, entry_at, IsWithin, IsKeptEntry};
 
 use crate::entry::Entry;
 use crate::rows::RowTable;
+use crate::table::Table;
 use dl_base::Memory;
 
 /// The number goes last into the lists of a body's literals, once into each.
@@ -49,11 +50,23 @@ pub(crate) fn widen(rows: &mut RowTable, names: usize) -> Result<(), Memory>
     Ok(())
 }
 
+/// Room for one more number in a list. The table becomes as long as that takes.
+pub(crate) fn reserve_at(rows: &mut RowTable, number: u32) -> Result<(), Memory>
+    ensures kept { KeepsLists rows.old rows.new }
+    ensures wide { OnOk result (number < length rows.new.lists) }
+    ensures room { OnOk result (0 < spare_at rows.new number) }
+{
+    let number = number as usize;
+    widen(rows, number + 1)?;
+    rows.reserve(number)?;
+    Ok(())
+}
+
 /// Room for one more rule, and no other change.
 pub(crate) fn reserve_rule(
-    entries: &mut Vec<Option<Entry>>,
-    order: &mut Vec<u32>,
-    places: &mut Vec<u32>,
+    entries: &mut Table<Option<Entry>>,
+    order: &mut Table<u32>,
+    places: &mut Table<u32>,
     heads: &mut RowTable,
     uses: &mut RowTable,
     entry: &Entry,
@@ -67,9 +80,9 @@ pub(crate) fn reserve_rule(
     ensures uses { KeepsLists uses.old uses.new }
     ensures heads_same { length heads.new.lists ≡ length heads.old.lists }
     ensures uses_same { length uses.new.lists ≡ length uses.old.lists }
-    ensures entries_room { OnOk result (vec_len entries.new < vec_capacity entries.new) }
-    ensures order_room { OnOk result (vec_len order.new < vec_capacity order.new) }
-    ensures places_room { OnOk result (vec_len places.new < vec_capacity places.new) }
+    ensures entries_room { OnOk result (0 < entries.new.spare) }
+    ensures order_room { OnOk result (0 < order.new.spare) }
+    ensures places_room { OnOk result (0 < places.new.spare) }
     ensures few { OnOk result (length entries.new.items < 2 ^ 32) }
     ensures heads_room { OnOk result (0 < spare_at heads.new entry.now.head) }
     ensures uses_room { OnOk result (All (λ b. 0 < spare_at uses.new b) entry.now.body.items) }
@@ -77,9 +90,9 @@ pub(crate) fn reserve_rule(
     if entries.len() > u32::MAX as usize {
         return Err(Memory);
     }
-    entries.reserve(1)?;
-    order.reserve(1)?;
-    places.reserve(1)?;
+    entries.reserve()?;
+    order.reserve()?;
+    places.reserve()?;
     heads.reserve(entry.head as usize)?;
     reserve_uses(uses, entry.body.as_slice())?;
     Ok(())
@@ -87,16 +100,16 @@ pub(crate) fn reserve_rule(
 
 /// The rule goes last, and into the list of its head and into those of its body's literals.
 pub(crate) fn put_rule(
-    entries: &mut Vec<Option<Entry>>,
-    order: &mut Vec<u32>,
-    places: &mut Vec<u32>,
+    entries: &mut Table<Option<Entry>>,
+    order: &mut Table<u32>,
+    places: &mut Table<u32>,
     heads: &mut RowTable,
     uses: &mut RowTable,
     entry: Entry,
 )
-    requires entries_room { vec_len entries.old < vec_capacity entries.old }
-    requires order_room { vec_len order.old < vec_capacity order.old }
-    requires places_room { vec_len places.old < vec_capacity places.old }
+    requires entries_room { 0 < entries.old.spare }
+    requires order_room { 0 < order.old.spare }
+    requires places_room { 0 < places.old.spare }
     requires few { length entries.old.items < 2 ^ 32 }
     requires fewer { length order.old.items ≤ length entries.old.items }
     requires heads_room { 0 < spare_at heads.old entry.head }
@@ -114,7 +127,7 @@ pub(crate) fn put_rule(
     let place = order.len() as u32;
     heads.push(entry.head as usize, rule);
     put_uses(uses, entry.body.as_slice(), rule);
-    entries.push_reserved(Some(entry));
-    order.push_reserved(rule);
-    places.push_reserved(place);
+    entries.push(Some(entry));
+    order.push(rule);
+    places.push(place);
 }

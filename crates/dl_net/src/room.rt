@@ -14,6 +14,7 @@ use crate::index::Index;
 use crate::load::{meet, room_for_rule};
 use crate::number::number_fact;
 use crate::staged::Staged;
+use crate::table::Table;
 use dl_base::Memory;
 use dl_lit::{Literal, Names};
 use dl_theory::{Edit, Pair};
@@ -25,7 +26,7 @@ pub(crate) fn take_room(
     edit: &Edit,
     staged: &Staged,
     names: &mut Names,
-    facts: &mut Vec<bool>,
+    facts: &mut Table<bool>,
     index: &mut Index,
 ) -> Result<(), Memory>
     requires accepted { IsAccepted staged.now.theory edit.now }
@@ -50,7 +51,7 @@ pub(crate) fn take_room(
 }
 
 /// Room for a fact, which gets a number with its complement.
-fn room_for_fact(fact: &Literal, names: &mut Names, facts: &mut Vec<bool>) -> Result<(), Memory>
+fn room_for_fact(fact: &Literal, names: &mut Names, facts: &mut Table<bool>) -> Result<(), Memory>
     requires { IsPaired names.old.literals }
     ensures paired { IsPaired names.new.literals }
     ensures grown { Grows (IsNear (fact.now ∷ [])) names.old.literals names.new.literals }

@@ -1,17 +1,17 @@
 //! Lists of numbers by number.
 
-ghost use Rattle.std.specs.Prelude.{◌≡◌, ℕ, ◌+◌, ◌-◌, ◌<◌, ◌≤◌, ◌≢◌, [], ◌∷◌, ◌++◌, OnOk, OnErr, length, slice_get, set};
+ghost use Rattle.std.specs.Prelude.{◌≡◌, ℕ, ◌+◌, ◌-◌, ◌<◌, ◌≤◌, ◌≢◌, ◌==◌, [], ◌∷◌, ◌++◌, OnOk, OnErr, length, slice_get, set, if◌then◌else◌};
 ghost use Rattle.dl_net.specs.Tables.{no_table, list_at, spare_at, drop_item, KeepsLists, ends_with};
 
+use crate::row::Row;
 use dl_base::Memory;
-use smallvec::SmallVec;
 use std::alloc::Global;
 use std::marker::Model;
 
-/// A list of numbers at each number. Most lists are short, and those of up to four numbers stand in the table itself.
+/// A list of numbers at each number.
 #[derive(Drop)]
 pub(crate) struct RowTable {
-    rows: Vec<SmallVec<u32, 4>>,
+    rows: Vec<Row>,
 }
 
 impl Model for RowTable {
@@ -39,8 +39,7 @@ impl RowTable {
         ensures grown { OnOk result (length self.new.lists ≡ length self.old.lists + 1) }
         ensures err { OnErr result (self.new ≡ self.old) }
     {
-        let row = SmallVec::new(*self.rows.allocator());
-        self.rows.push(row)?;
+        self.rows.push(Row::make())?;
         Ok(())
     }
 
@@ -51,8 +50,9 @@ impl RowTable {
         ensures same { length self.new.lists ≡ length self.old.lists }
         ensures room { OnOk result (0 < spare_at self.new number) }
     {
+        let alloc = *self.rows.allocator();
         let row = &mut self.rows[number];
-        row.reserve(1)?;
+        row.reserve(alloc)?;
         Ok(())
     }
 
@@ -66,20 +66,26 @@ impl RowTable {
         row.push_reserved(item);
     }
 
-    /// Takes a number out of a list.
+    /// Takes a number out of a list. Past the end no list has any.
     pub fn remove(&mut self, number: usize, item: u32)
-        requires { number < length self.old.lists }
-        ensures lists { self.new.lists ≡ set self.old.lists number (drop_item item (list_at self.old number)) }
+        ensures lists { (n : ℕ) → list_at self.new n ≡ (if n == number then drop_item item (list_at self.old n) else list_at self.old n) }
+        ensures same { length self.new.lists ≡ length self.old.lists }
     {
+        if number >= self.rows.len() {
+            return;
+        }
         let row = &mut self.rows[number];
-        row.retain(|x| *x != item);
+        row.remove(item);
     }
 
     /// Empties a list.
     pub fn clear(&mut self, number: usize)
-        requires { number < length self.old.lists }
-        ensures { self.new.lists ≡ set self.old.lists number [] }
+        ensures lists { (n : ℕ) → list_at self.new n ≡ (if n == number then [] else list_at self.old n) }
+        ensures same { length self.new.lists ≡ length self.old.lists }
     {
+        if number >= self.rows.len() {
+            return;
+        }
         let row = &mut self.rows[number];
         row.clear();
     }
@@ -116,7 +122,7 @@ impl RowTable {
     {
         match self.rows.get(number) {
             None => None,
-            Some(row) => row.get(at).copied(),
+            Some(row) => row.as_slice().get(at).copied(),
         }
     }
 

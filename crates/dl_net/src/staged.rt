@@ -79,6 +79,14 @@ impl Staged {
         let _formed = self.theory.facts_len();
     }
 
+    /// The theory, where no edit is prepared.
+    pub fn settled(&self) -> &Theory
+        requires { self.now.pending ≡ None }
+        ensures { result.now ≡ self.now.theory }
+    {
+        &self.theory
+    }
+
     /// An equal theory, where no edit is prepared.
     pub fn copy(&self) -> Result<Theory, Memory>
         requires { self.now.pending ≡ None }

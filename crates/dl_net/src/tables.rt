@@ -11,6 +11,7 @@ ghost use Rattle.dl_net.specs.Named.{IsPaired, HasFacts, HasLiterals, number_in,
 use crate::index::Index;
 use crate::load::meet;
 use crate::staged::Staged;
+use crate::table::Table;
 use dl_lit::{Literal, Name, Names};
 use dl_theory::{Edit, Pair, Rule};
 
@@ -19,7 +20,7 @@ pub(crate) fn change_tables(
     edit: &Edit,
     staged: &Staged,
     names: &Names,
-    facts: &mut Vec<bool>,
+    facts: &mut Table<bool>,
     index: &mut Index,
 )
     requires accepted { IsAccepted staged.now.theory edit.now }
@@ -63,7 +64,7 @@ fn drop_rule(label: &Name, staged: &Staged, index: &mut Index)
 }
 
 /// A literal becomes a fact.
-fn add_fact(fact: &Literal, _staged: &Staged, names: &Names, facts: &mut Vec<bool>)
+fn add_fact(fact: &Literal, _staged: &Staged, names: &Names, facts: &mut Table<bool>)
     requires named { Contains names.now.literals fact.now }
     requires room { number_in names.now.literals fact.now < length facts.old.items }
     requires facts { HasFacts names.now.literals _staged.now.theory.facts facts.old.items }
@@ -71,12 +72,12 @@ fn add_fact(fact: &Literal, _staged: &Staged, names: &Names, facts: &mut Vec<boo
 {
     match names.find(fact) {
         None => unreachable!(),
-        Some(number) => facts[number] = true,
+        Some(number) => facts.write(number, true),
     }
 }
 
 /// A literal is no fact any more.
-fn drop_fact(fact: &Literal, staged: &Staged, names: &Names, facts: &mut Vec<bool>)
+fn drop_fact(fact: &Literal, staged: &Staged, names: &Names, facts: &mut Table<bool>)
     requires accepted { IsAccepted staged.now.theory (Edit.DropFact fact.now) }
     requires named { All (Contains names.now.literals) staged.now.theory.facts }
     requires facts { HasFacts names.now.literals staged.now.theory.facts facts.old.items }
@@ -85,7 +86,7 @@ fn drop_fact(fact: &Literal, staged: &Staged, names: &Names, facts: &mut Vec<boo
     let _formed = staged.facts_len();
     match names.find(fact) {
         None => unreachable!(),
-        Some(number) => facts[number] = false,
+        Some(number) => facts.write(number, false),
     }
 }
 

@@ -8,10 +8,10 @@ ghost use Rattle.dl_net.specs.Indexes.{line_at, place_in};
 
 use crate::entry::Entry;
 use crate::rows::RowTable;
+use crate::table::Table;
 
 /// A number goes out of the lists at some numbers.
 pub(crate) fn take_out(rows: &mut RowTable, numbers: &[u32], item: u32)
-    requires { All (λ n. n < length rows.old.lists) numbers.now }
     ensures lists { (n : ℕ) → list_at rows.new n ≡ (if is_in numbers.now n then drop_item item (list_at rows.old n) else list_at rows.old n) }
     ensures same { length rows.new.lists ≡ length rows.old.lists }
 {
@@ -22,22 +22,20 @@ pub(crate) fn take_out(rows: &mut RowTable, numbers: &[u32], item: u32)
 
 /// A rule goes, and out of the lists of its head and of its body's literals.
 pub(crate) fn take_rule(
-    entries: &mut Vec<Option<Entry>>,
+    entries: &mut Table<Option<Entry>>,
     heads: &mut RowTable,
     uses: &mut RowTable,
     rule: u32,
 )
     requires within { rule < length entries.old.items }
     requires kept { IsKeptEntry (length heads.old.lists) (entry_at entries.old.items rule) }
-    requires wide { length heads.old.lists ≤ length uses.old.lists }
     ensures entries { entries.new.items ≡ set entries.old.items rule None }
     ensures heads { (n : ℕ) → list_at heads.new n ≡ (if n == (line_at entries.old.items rule).head then drop_item rule (list_at heads.old n) else list_at heads.old n) }
     ensures uses { (n : ℕ) → list_at uses.new n ≡ (if is_in (line_at entries.old.items rule).body n then drop_item rule (list_at uses.old n) else list_at uses.old n) }
     ensures heads_same { length heads.new.lists ≡ length heads.old.lists }
     ensures uses_same { length uses.new.lists ≡ length uses.old.lists }
 {
-    let slot = &mut entries[rule as usize];
-    match slot.take() {
+    match entries.replace(rule as usize, None) {
         None => unreachable!(),
         Some(entry) => {
             heads.remove(entry.head as usize, rule);
@@ -48,10 +46,6 @@ pub(crate) fn take_rule(
 
 /// A rule goes out of what stands below and above the others, and nothing stands below or above it.
 pub(crate) fn take_links(lowers: &mut RowTable, uppers: &mut RowTable, rule: u32)
-    requires lower_within { rule < length lowers.old.lists }
-    requires upper_within { rule < length uppers.old.lists }
-    requires lower { All (λ s. s < length uppers.old.lists) (list_at lowers.old rule) }
-    requires upper { All (λ s. s < length lowers.old.lists) (list_at uppers.old rule) }
     ensures lowers { (s : ℕ) → list_at lowers.new s ≡ (if s == rule then [] else if is_in (list_at uppers.old rule) s then drop_item rule (list_at lowers.old s) else list_at lowers.old s) }
     ensures uppers { (s : ℕ) → list_at uppers.new s ≡ (if s == rule then [] else if is_in (list_at lowers.old rule) s then drop_item rule (list_at uppers.old s) else list_at uppers.old s) }
     ensures lower_same { length lowers.new.lists ≡ length lowers.old.lists }
@@ -64,15 +58,15 @@ pub(crate) fn take_links(lowers: &mut RowTable, uppers: &mut RowTable, rule: u32
 }
 
 /// Each rule from a place on gets its place.
-pub(crate) fn place_from(places: &mut Vec<u32>, order: &[u32], from: usize)
-    requires distinct { IsDistinct order.now }
-    requires within { All (λ s. s < length places.old.items) order.now }
-    requires few { length order.now < 2 ^ 32 }
-    requires before { (k : ℕ) → k < from → k < length order.now → place_in places.old.items (get_or order.now k 0) ≡ k }
-    ensures placed { (k : ℕ) → k < length order.now → place_in places.new.items (get_or order.now k 0) ≡ k }
+pub(crate) fn place_from(places: &mut Table<u32>, order: &Table<u32>, from: usize)
+    requires distinct { IsDistinct order.now.items }
+    requires within { All (λ s. s < length places.old.items) order.now.items }
+    requires few { length order.now.items < 2 ^ 32 }
+    requires before { (k : ℕ) → k < from → k < length order.now.items → place_in places.old.items (get_or order.now.items k 0) ≡ k }
+    ensures placed { (k : ℕ) → k < length order.now.items → place_in places.new.items (get_or order.now.items k 0) ≡ k }
     ensures same { length places.new.items ≡ length places.old.items }
 {
     for at in from..order.len() {
-        places[order[at] as usize] = at as u32;
+        places.write(*order.at(at) as usize, at as u32);
     }
 }

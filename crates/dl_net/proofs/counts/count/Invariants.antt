@@ -6,6 +6,6 @@ use Rattle.dl_net.proofs.counts.count.Given as goal
 
 abbrev pub invariant-loop-rule : goal.invariant-loop-rule
 invariant-loop-rule l = record {
-  value : l.count ≡ length (filter (λ s. passes l.strict (line_at l.entries s).kind) (take l.rule-index l.rules));
+  value : l.count ≡ length (filter (λ s. passes l.strict (line_at l.entries.items s).kind) (take l.rule-index l.rules));
   few : l.count ≤ l.rule-index;
 }

@@ -12,6 +12,14 @@ pub returns-clause-there : goal.returns-clause-there
 returns-clause-there c =
     subst (λ (rs : List Rule). All (HasLiterals c.load_rules.new.names.literals) rs) c.rules.ensures.value c.in_ok-load_rules.ensures.there
 
+pub returns-in_err-load_rules-clause-same : goal.returns-in_err-load_rules-clause-same
+returns-in_err-load_rules-clause-same c = λ h.
+    c.load_rules.ensures.same (subst (λ (rs : List Rule). All (HasLiterals c.args.names.now.literals) rs) (sym c.rules.ensures.value) h)
+
+pub returns-in_err-load_pairs-clause-same : goal.returns-in_err-load_pairs-clause-same
+returns-in_err-load_pairs-clause-same c = λ h.
+    c.load_rules.ensures.same (subst (λ (rs : List Rule). All (HasLiterals c.args.names.now.literals) rs) (sym c.rules.ensures.value) h)
+
 pub returns-clause-same : goal.returns-clause-same
 returns-clause-same c = λ h.
-    c.in_ok-load_rules.ensures.same (subst (λ (rs : List Rule). All (HasLiterals c.args.names.now.literals) rs) (sym c.rules.ensures.value) h)
+    c.load_rules.ensures.same (subst (λ (rs : List Rule). All (HasLiterals c.args.names.now.literals) rs) (sym c.rules.ensures.value) h)

@@ -35,6 +35,7 @@ loop-pair-preserved c =
     let is : p ≡ get_or T.pairs i p = c.pair-item.is ∙ ap (λ (ps : List Pair). get_or ps i p) all in
     record {
       lines = c.in_ok-load_pair.ensures.lines ∙ c.loop-pair.invariant.lines;
+      numbers = c.in_ok-load_pair.ensures.numbers ∙ c.loop-pair.invariant.numbers;
       lowers = c.in_ok-load_pair.ensures.lowers (λ t. flat_map (λ q. lower_step T q t) (take i T.pairs)) c.loop-pair.invariant.lowers
           ∙ more_steps (lower_step T) T.pairs i p T.rules at is;
       uppers = c.in_ok-load_pair.ensures.uppers (λ t. flat_map (λ q. upper_step T q t) (take i T.pairs)) c.loop-pair.invariant.uppers

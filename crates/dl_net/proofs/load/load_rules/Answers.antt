@@ -1,4 +1,4 @@
-use Rattle.std.proofs.Common.{◌≡◌, [], ◌∷◌, ◌++◌, ◌+◌, ℕ, List, Option, map, take, refl, sym, ap, subst, ◌∙◌}
+use Rattle.std.proofs.Common.{◌≡◌, [], ◌∷◌, ◌++◌, ◌+◌, ◌<◌, ℕ, List, Option, length, get_or, map, take, refl, sym, ap, subst, ◌∙◌, arith}
 use Rattle.std.specs.Prelude.{All, option_to_list}
 use Rattle.std.proofs.lemmas.List.{take_more, take_all, map-append}
 use Rattle.std.proofs.lemmas.List.Elements.{All-nil, All-push}
@@ -15,6 +15,17 @@ map_more : {Y : Type 0} (f : Rule → Y) (rules : List Rule) (i : ℕ) (r : Rule
     → map f (take (i + 1) rules) ≡ map f (take i rules) ++ f r ∷ []
 map_more f rules i r more = ap (map f) more ∙ map-append f (take i rules) (r ∷ [])
 
+-- names that have all literals of the rules stay as they are at one rule more
+same_by : (a b c : Numbering) (rules : List Rule) (i : ℕ) (r : Rule) → i < length rules → r ≡ get_or rules i r → (All (HasLiterals a.literals) rules → b ≡ a)
+    → (HasLiterals b.literals r → c ≡ b) → All (HasLiterals a.literals) rules → c ≡ a
+same_by a b c rules i r lt is before now h =
+    now (subst (λ (n : Numbering). HasLiterals n.literals r) (sym (before h)) (subst (λ (x : Rule). HasLiterals a.literals x) (sym is) (h i r lt))) ∙ before h
+
+pub returns-in_err-room_for_rule-clause-same : goal.returns-in_err-room_for_rule-clause-same
+returns-in_err-room_for_rule-clause-same c =
+    same_by c.args.names.now c.loop-rule.names c.room_for_rule.new.names c.args.rules.now c.loop-rule.rule-index c.rule-item.result c.loop-rule-test.true
+    c.rule-item.is c.loop-rule.invariant.same c.room_for_rule.ensures.same
+
 pub loop-rule-init : goal.loop-rule-init
 loop-rule-init c = record {
   paired = c.requires.paired;
@@ -25,6 +36,7 @@ loop-rule-init c = record {
   lines = c.requires.lines;
   lowers = c.requires.lowers;
   uppers = c.requires.uppers;
+  numbers = c.requires.numbers;
 }
 
 pub loop-rule-preserved : goal.loop-rule-preserved
@@ -45,12 +57,8 @@ loop-rule-preserved c =
           (Grows-weaker near (λ _. Unit {0}) old new (λ q h. tt) grown);
       there = subst (λ (rs : List Rule). All (HasLiterals new) rs) (sym more)
           (All-push (HasLiterals new) (take i rules) r (rules_grown near old new (take i rules) grown c.loop-rule.invariant.there) c.in_ok-room_for_rule.ensures.there);
-      same = λ h.
-          let before : c.loop-rule.names ≡ c.args.names.now = c.loop-rule.invariant.same h in
-          c.in_ok-room_for_rule.ensures.same
-          (subst (λ (n : Numbering). HasLiterals n.literals r) (sym before)
-          (subst (λ (x : Rule). HasLiterals c.args.names.now.literals x) (sym c.rule-item.is) (h i r c.loop-rule-test.true)))
-          ∙ before;
+      same = same_by c.args.names.now c.loop-rule.names c.room_for_rule.new.names rules i r c.loop-rule-test.true c.rule-item.is c.loop-rule.invariant.same
+          c.room_for_rule.ensures.same;
       lines = c.put.ensures.lines
           ∙ ap (λ (o : Option Line). c.room_for_rule.new.index.lines ++ option_to_list o) c.in_ok-room_for_rule.ensures.ready
           ∙ ap (λ (xs : List Line). xs ++ line_in new r ∷ [])
@@ -60,6 +68,7 @@ loop-rule-preserved c =
       lowers = c.put.ensures.lowers
           ∙ ap (λ (xs : List (List ℕ)). xs ++ [] ∷ []) (c.room_for_rule.ensures.kept.lowers ∙ c.loop-rule.invariant.lowers)
           ∙ sym (map_more {Y = List ℕ} (λ _. []) rules i r more);
+      numbers = omega (arith, c.put.ensures.numbers, c.room_for_rule.ensures.kept.numbers, c.loop-rule.invariant.numbers);
       uppers = c.put.ensures.uppers
           ∙ ap (λ (xs : List (List ℕ)). xs ++ [] ∷ []) (c.room_for_rule.ensures.kept.uppers ∙ c.loop-rule.invariant.uppers)
           ∙ sym (map_more {Y = List ℕ} (λ _. []) rules i r more);

@@ -13,5 +13,6 @@ invariant-loop-rule l = record {
   same : All (HasLiterals l.fn.names.literals) l.rules → l.names ≡ l.fn.names;
   lines : l.index.lines ≡ map (line_in l.names.literals) (take l.rule-index l.rules);
   lowers : l.index.lowers ≡ map (λ _. []) (take l.rule-index l.rules);
+  numbers : l.index.numbers ≡ l.rule-index;
   uppers : l.index.uppers ≡ map (λ _. []) (take l.rule-index l.rules);
 }

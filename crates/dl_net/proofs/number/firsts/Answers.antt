@@ -24,7 +24,7 @@ loop-number-preserved c =
           ∙ sym (ap each_once more);
       once = elim c.if-branch.branch [
         | then-branch+in_ok-push w ↦
-            ap (λ v. v.items) w.once-is ∙ w.in_ok-push.ensures.items
+            ap (λ v. v.items) w.once-is ∙ w.in_ok-push.ensures
             ∙ ap (λ ds. ds ++ b ∷ []) c.loop-number.invariant.once
             ∙ each_once-inserted done b false (is ∙ ap not w.if-branch.true)
             ∙ sym (ap each_once more)

@@ -1,4 +1,4 @@
-use Rattle.std.proofs.Common.{[], ◌∷◌, ◌++◌, ◌+◌, ◌≡◌, ℕ, List, take, map, sym, ap, subst, ◌∙◌}
+use Rattle.std.proofs.Common.{[], ◌∷◌, ◌++◌, ◌+◌, ◌≡◌, ◌<◌, ℕ, List, length, get_or, take, map, sym, ap, subst, ◌∙◌}
 use Rattle.std.specs.Prelude.{All, Contains}
 use Rattle.std.proofs.lemmas.List.{take_more, take_all, map-append}
 use Rattle.std.proofs.lemmas.List.Elements.{All-push, All-weaker}
@@ -13,6 +13,22 @@ use Rattle.dl_net.proofs.number.number_literals.Goals as goal
 -- one more of the literals is near them
 grown_by : (xs a b c : List Literal) (q : Literal) → Contains xs q → Grows (IsNear xs) a b → Grows (IsNear (q ∷ [])) b c → Grows (IsNear xs) a c
 grown_by xs a b c q there g h = Grows-trans (IsNear xs) a b c g (Grows-weaker (IsNear (q ∷ [])) (IsNear xs) b c (λ r k. near_member q xs r there k) h)
+
+-- names that have all of the literals stay as they are at one literal more
+same_by : (a b c : Numbering) (xs : List Literal) (i : ℕ) (q : Literal) → i < length xs → q ≡ get_or xs i q → (All (Contains a.literals) xs → b ≡ a)
+    → (Contains b.literals q → c ≡ b) → All (Contains a.literals) xs → c ≡ a
+same_by a b c xs i q lt is before now h =
+    now (subst (λ (n : Numbering). Contains n.literals q) (sym (before h)) (subst (λ (x : Literal). Contains a.literals x) (sym is) (h i q lt))) ∙ before h
+
+pub returns-in_err-number_literal-clause-same : goal.returns-in_err-number_literal-clause-same
+returns-in_err-number_literal-clause-same c =
+    same_by c.args.names.now c.loop-literal.names c.number_literal.new.names c.args.literals.now c.loop-literal.literal-index c.literal-item.result
+    c.loop-literal-test.true c.literal-item.is c.loop-literal.invariant.same c.number_literal.ensures.same
+
+pub returns-in_err-push-clause-same : goal.returns-in_err-push-clause-same
+returns-in_err-push-clause-same c =
+    same_by c.args.names.now c.loop-literal.names c.number_literal.new.names c.args.literals.now c.loop-literal.literal-index c.literal-item.result
+    c.loop-literal-test.true c.literal-item.is c.loop-literal.invariant.same c.number_literal.ensures.same
 
 pub returns-in_err-number_literal-clause-grown : goal.returns-in_err-number_literal-clause-grown
 returns-in_err-number_literal-clause-grown c =
@@ -42,18 +58,14 @@ loop-literal-preserved c =
           (All-push (Contains new) (take i xs) q
           (All-weaker (Contains old) (Contains new) (λ r m. Grows-keeps (IsNear (q ∷ [])) old new r grown m) (take i xs) c.loop-literal.invariant.there)
           c.in_ok-number_literal.ensures.there);
-      numbers = c.in_ok-push.ensures.ok
+      numbers = c.in_ok-push.ensures
           ∙ (λ j. (c.loop-literal.invariant.numbers
           ∙ map_agree (number_in old) (number_in new) (take i xs)
           (All-weaker (Contains old) (λ r. number_in old r ≡ number_in new r) (number_kept old new c.number_literal.ensures.distinct (IsNear (q ∷ [])) grown) (take i xs)
           c.loop-literal.invariant.there)) j ++ c.in_ok-number_literal.ensures.number j ∷ [])
           ∙ sym (ap (map (number_in new)) more ∙ map-append (number_in new) (take i xs) (q ∷ []));
-      same = λ h.
-          let before : c.loop-literal.names ≡ c.args.names.now = c.loop-literal.invariant.same h in
-          c.in_ok-number_literal.ensures.same
-          (subst (λ (n : Numbering). Contains n.literals q) (sym before)
-          (subst (λ (x : Literal). Contains c.args.names.now.literals x) (sym c.literal-item.is) (h i q c.loop-literal-test.true)))
-          ∙ before;
+      same = same_by c.args.names.now c.loop-literal.names c.number_literal.new.names xs i q c.loop-literal-test.true c.literal-item.is c.loop-literal.invariant.same
+          c.number_literal.ensures.same;
     }
 
 pub returns-clause-there : goal.returns-clause-there

@@ -50,12 +50,22 @@ returns-clause-line c =
     (λ e. line_of (Some e) ≡ line_in new c.args.rule.now)
     (λ e is. is ∙ (λ i. record { kind = c.args.rule.now.kind; head = head i; body = body i })) c.entry_of.ensures.line
 
+pub returns-in_err-head-clause-same : goal.returns-in_err-head-clause-same
+returns-in_err-head-clause-same c = λ h. c.number_literal.ensures.same h.0
+
+-- names that have the head and the body stay as they are
+same_by : (a b c : Numbering) (head : Literal) (body xs : List Literal) → xs ≡ body → (Contains a.literals head → b ≡ a) → (All (Contains b.literals) xs → c ≡ b)
+    → Contains a.literals head × All (Contains a.literals) body → c ≡ a
+same_by a b c head body xs is first rest h =
+    let before : b ≡ a = first h.0 in
+    rest (subst (λ (n : Numbering). All (Contains n.literals) xs) (sym before) (subst (λ (ys : List Literal). All (Contains a.literals) ys) (sym is) h.1)) ∙ before
+
+pub returns-in_err-body-clause-same : goal.returns-in_err-body-clause-same
+returns-in_err-body-clause-same c =
+    same_by c.args.names.now c.number_literal.new.names c.number_literals.new.names c.args.rule.now.head c.args.rule.now.body c.as_slice.result.now c.as_slice.ensures
+    c.number_literal.ensures.same c.number_literals.ensures.same
+
 pub returns-clause-same : goal.returns-clause-same
 returns-clause-same c =
-    ok_from c.entry_of.result (HasLiterals c.args.names.now.literals c.args.rule.now → c.number_literals.new.names ≡ c.args.names.now)
-    (λ h.
-    let first : c.number_literal.new.names ≡ c.args.names.now = c.in_ok-head.ensures.same h.0 in
-    c.in_ok-body.ensures.same
-    (subst (λ (n : Numbering). All (Contains n.literals) c.as_slice.result.now) (sym first)
-    (subst (λ (xs : List Literal). All (Contains c.args.names.now.literals) xs) (sym c.as_slice.ensures) h.1))
-    ∙ first)
+    same_by c.args.names.now c.number_literal.new.names c.number_literals.new.names c.args.rule.now.head c.args.rule.now.body c.as_slice.result.now c.as_slice.ensures
+    c.number_literal.ensures.same c.number_literals.ensures.same

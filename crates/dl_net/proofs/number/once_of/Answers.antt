@@ -8,4 +8,4 @@ returns-then-once_len-numbers c = sym (each_once_full c.args.numbers.now (sym c.
 pub returns-then-len-numbers : goal.returns-then-len-numbers
 returns-then-len-numbers c =
     sym (each_once_full c.args.numbers.now
-    (omega (arith, c.in_ok-once.once.ok, c.len.ensures, c.if-len-numbers.true, ap length c.in_ok-once.ensures)))
+    (omega (arith, c.len.ensures, c.if-len-numbers.true, ap length c.in_ok-once.ensures)))

@@ -1,4 +1,4 @@
-use Rattle.std.proofs.Common.{◌≡◌, ◌≤◌, Bool, Vec, Global, Some, Result, List, [], ◌∷◌, length, sym, subst, arith}
+use Rattle.std.proofs.Common.{◌≡◌, ◌≤◌, Bool, Some, Result, List, [], ◌∷◌, length, sym, subst, arith}
 use Rattle.std.specs.Prelude.{OnOk, Contains}
 use Rattle.std.proofs.lemmas.Result.{on_ok_weaker}
 use Rattle.dl_base.specs.declared.memory.Memory.{Memory}
@@ -9,6 +9,7 @@ use Rattle.dl_theory.specs.Lists.{TheoryLists}
 use Rattle.dl_net.specs.Edited.{edit_literals}
 use Rattle.dl_net.specs.Room.{HasEditRoom, HasPairRoom}
 use Rattle.dl_net.specs.Named.{IsNear, Grows, HasFacts, HasLiterals, line_in}
+use Rattle.dl_net.specs.Listed.{Listed}
 use Rattle.dl_net.specs.Lines.{IndexLists, KeepsRules}
 use Rattle.dl_net.proofs.NameLemmas.{Grows-none, number_within}
 use Rattle.dl_net.proofs.JoinLemmas.{ok_both, tables_roomed, same_rules}
@@ -48,15 +49,15 @@ returns-clause-tables c =
     ] in
     let more : (qs : List Literal) → HasFacts ls qs marks → HasFacts ls qs c.match-edit.facts.items =
     elim c.match-edit.branch [
-      | in-AddRule w ↦ λ qs h. subst (λ (v : Vec Bool Global). HasFacts ls qs v.items) (sym w.facts-is) h
+      | in-AddRule w ↦ λ qs h. subst (λ (v : Listed Bool). HasFacts ls qs v.items) (sym w.facts-is) h
       | in-AddFact w ↦
-          subst (λ (v : Vec Bool Global). (qs : List Literal) → HasFacts ls qs marks → HasFacts ls qs v.items) (sym w.facts-is)
+          subst (λ (v : Listed Bool). (qs : List Literal) → HasFacts ls qs marks → HasFacts ls qs v.items) (sym w.facts-is)
           (subst (λ (n : Numbering). (qs : List Literal) → HasFacts n.literals qs marks → HasFacts n.literals qs w.room_for_fact-result.new.facts.items) (sym w.names-is)
           w.room_for_fact-result.ensures.kept)
-      | in-AddPair w ↦ λ qs h. subst (λ (v : Vec Bool Global). HasFacts ls qs v.items) (sym w.facts-is) h
-      | in-DropRule w ↦ λ qs h. subst (λ (v : Vec Bool Global). HasFacts ls qs v.items) (sym w.facts-is) h
-      | in-DropFact w ↦ λ qs h. subst (λ (v : Vec Bool Global). HasFacts ls qs v.items) (sym w.facts-is) h
-      | in-DropPair w ↦ λ qs h. subst (λ (v : Vec Bool Global). HasFacts ls qs v.items) (sym w.facts-is) h
+      | in-AddPair w ↦ λ qs h. subst (λ (v : Listed Bool). HasFacts ls qs v.items) (sym w.facts-is) h
+      | in-DropRule w ↦ λ qs h. subst (λ (v : Listed Bool). HasFacts ls qs v.items) (sym w.facts-is) h
+      | in-DropFact w ↦ λ qs h. subst (λ (v : Listed Bool). HasFacts ls qs v.items) (sym w.facts-is) h
+      | in-DropPair w ↦ λ qs h. subst (λ (v : Listed Bool). HasFacts ls qs v.items) (sym w.facts-is) h
     ] in
     tables_roomed c.args.staged.now.theory c.args.names.now.literals ls marks c.match-edit.facts.items x c.match-edit.index
     (IsNear (edit_literals c.args.edit.now)) c.len-count.ensures.distinct (returns-clause-grown c) kept more c.requires.tables
@@ -84,7 +85,7 @@ returns-clause-room c =
           let wide : OnOk c.match-edit.result (length ls ≤ length marks) =
           subst (λ (r : Result (Unit {0}) Memory). OnOk r (length ls ≤ length marks)) (sym w.result-is)
           (subst (λ (n : Numbering). OnOk w.room_for_fact-result.result (length n.literals ≤ length marks)) (sym w.names-is)
-          (subst (λ (v : Vec Bool Global). OnOk w.room_for_fact-result.result (length w.room_for_fact-result.new.names.literals ≤ length v.items)) (sym w.facts-is)
+          (subst (λ (v : Listed Bool). OnOk w.room_for_fact-result.result (length w.room_for_fact-result.new.names.literals ≤ length v.items)) (sym w.facts-is)
           w.room_for_fact-result.ensures.room)) in
           subst (λ (e : Edit). OnOk c.match-edit.result (HasEditRoom T ls marks c.match-edit.index e)) (sym w.in-AddFact.is)
           (on_ok_weaker c.match-edit.result

@@ -1,19 +1,9 @@
-use Rattle.std.proofs.Common.{◌≡◌, ℕ, ◌<◌, List, length, get_or, take, cond, sym, ap, subst, ◌∙◌, arith}
-use Rattle.std.proofs.Math.ListN.{length-set}
+use Rattle.std.proofs.Common.{◌≡◌, ℕ, List, get_or, take, cond, sym, subst, ◌∙◌}
 use Rattle.std.proofs.lemmas.List.{take_more, take_all}
-use Rattle.std.proofs.lemmas.List.Elements.{All-get_or}
 use Rattle.dl_net.specs.Tables.{Table, list_at, drop_item}
 use Rattle.dl_net.specs.Lines.{is_in}
 use Rattle.dl_net.proofs.TakeLemmas.{taken}
 use Rattle.dl_net.proofs.take.take_out.Goals as goal
-
-pub remove-requires : goal.remove-requires
-remove-requires c =
-    omega (
-      arith,
-      c.loop-number.invariant.same,
-      All-get_or (λ k. k < length c.args.rows.now.lists) c.args.numbers.now c.loop-number.number-index 0 c.loop-number-test.true c.requires,
-    )
 
 pub loop-number-preserved : goal.loop-number-preserved
 loop-number-preserved c =
@@ -22,13 +12,12 @@ loop-number-preserved c =
     let b : ℕ = get_or xs i 0 in
     let old : Table = c.args.rows.now in
     let now : Table = c.loop-number.rows in
-    let within : b < length now.lists = omega (arith, c.loop-number.invariant.same, All-get_or (λ k. k < length old.lists) xs i 0 c.loop-number-test.true c.requires) in
     record {
       lists = λ n.
           subst (λ (ds : List ℕ). list_at c.remove.new.self n ≡ cond (is_in ds n) (drop_item c.args.item (list_at old n)) (list_at old n))
           (sym (take_more xs i 0 c.loop-number-test.true))
-          (taken c.args.item old now c.remove.new.self (take i xs) b c.loop-number.invariant.lists within c.remove.ensures.lists n);
-      same = ap length c.remove.ensures.lists ∙ length-set now.lists b (drop_item c.args.item (list_at now b)) ∙ c.loop-number.invariant.same;
+          (taken c.args.item old now c.remove.new.self (take i xs) b c.loop-number.invariant.lists c.remove.ensures.lists n);
+      same = c.remove.ensures.same ∙ c.loop-number.invariant.same;
     }
 
 pub returns-clause-lists : goal.returns-clause-lists

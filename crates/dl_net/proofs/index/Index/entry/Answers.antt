@@ -5,4 +5,4 @@ use Rattle.dl_net.proofs.index.Index.entry.Goals as goal
 pub number_at-inner-requires-clause-still : goal.number_at-inner-requires-clause-still
 number_at-inner-requires-clause-still c =
     order_still c.self.inside.entries.items c.self.inside.order.items c.self.inside.places.items c.self.inside.heads c.self.inside.uses c.self.invariant.rules
-    c.as_slice.result.now c.len.result c.as_slice.ensures.value (omega (arith, c.len.ensures))
+    c.len.result (omega (arith, c.len.ensures))

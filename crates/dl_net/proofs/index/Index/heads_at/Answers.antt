@@ -1,29 +1,26 @@
-use Rattle.std.proofs.Common.{◌≡◌, ℕ, ◌<◌, List, length, map, sym, ap, subst, ◌∙◌, arith}
-use Rattle.std.specs.Prelude.{All, slice_get}
+use Rattle.std.proofs.Common.{◌≡◌, ℕ, List, ap, subst, ◌∙◌, arith}
+use Rattle.std.specs.Prelude.{slice_get}
 use Rattle.dl_net.specs.Rows.{places}
 use Rattle.dl_net.specs.Tables.{list_at}
 use Rattle.dl_net.specs.Lines.{IndexLists, heads_row}
-use Rattle.dl_net.specs.Indexes.{place_in}
 use Rattle.dl_net.proofs.PlaceLemmas.{heads_are, heads_there, have_places}
 use Rattle.dl_net.proofs.OrderLemmas.{places_still}
 use Rattle.dl_net.proofs.index.Index.heads_at.Goals as goal
 
 pub place_at-requires-clause-within : goal.place_at-requires-clause-within
 place_at-requires-clause-within c =
-    subst (λ (ps : List ℕ). All (λ s. s < length ps) (list_at c.self.inside.heads c.args.number)) (sym c.as_slice.ensures.value)
-    (have_places c.self.inside.entries.items c.self.inside.order.items c.self.inside.places.items c.self.inside.heads c.self.inside.uses c.self.invariant.rules
+    have_places c.self.inside.entries.items c.self.inside.order.items c.self.inside.places.items c.self.inside.heads c.self.inside.uses c.self.invariant.rules
     (list_at c.self.inside.heads c.args.number)
-    (heads_there c.self.inside.entries.items c.self.inside.order.items c.self.inside.places.items c.self.inside.heads c.self.inside.uses c.self.invariant.rules c.args.number))
+    (heads_there c.self.inside.entries.items c.self.inside.order.items c.self.inside.places.items c.self.inside.heads c.self.inside.uses c.self.invariant.rules c.args.number)
 
 pub place_at-requires-clause-still : goal.place_at-requires-clause-still
 place_at-requires-clause-still c =
     places_still c.self.inside.entries.items c.self.inside.order.items c.self.inside.places.items c.self.inside.heads c.self.inside.uses c.self.invariant.rules
-    c.as_slice.result.now c.len.result c.as_slice.ensures.value (omega (arith, c.len.ensures))
+    c.len.result (omega (arith, c.len.ensures))
 
 pub returns : goal.returns
 returns c =
     subst (λ (v : IndexLists). c.place_at.result ≡ slice_get (places heads_row v.lines c.args.number) c.args.at) c.self.view_is
     (c.place_at.ensures
-    ∙ ap (λ (ps : List ℕ). slice_get (map (place_in ps) (list_at c.self.inside.heads c.args.number)) c.args.at) c.as_slice.ensures.value
     ∙ ap (λ (xs : List ℕ). slice_get xs c.args.at) (heads_are c.self.inside.entries.items c.self.inside.order.items c.self.inside.places.items
     c.self.inside.heads c.self.inside.uses c.self.invariant.rules c.args.number))

@@ -8,7 +8,8 @@ use Rattle.dl_net.specs.Lines.{IndexLists}
 use Rattle.dl_net.specs.Indexes.{line_at, by_place, HasRules, HasLinks}
 use Rattle.dl_net.specs.KeptIndex.{HasRoom, HasRuleRoom, ready_of}
 use Rattle.dl_net.proofs.PlaceLemmas.{uses_there}
-use Rattle.dl_net.proofs.RuleLemmas.{HasRules-add, HasLinks-more, KeepsLists-refl, lines-add, by_place-add}
+use Rattle.dl_net.proofs.Keeping.{KeepsLists-refl}
+use Rattle.dl_net.proofs.RuleLemmas.{HasRules-add, HasLinks-more, lines-add, by_place-add}
 use Rattle.dl_net.proofs.index.Index.put.Goals as goal
 
 pub put_rule-requires-clause-fresh : goal.put_rule-requires-clause-fresh
@@ -32,8 +33,7 @@ invariant_of-self c =
     let linked : HasLinks (length (entries ++ Some e ∷ [])) (order ++ length entries ∷ []) c.self.inside.lowers c.self.inside.uppers =
     HasLinks-more (length entries) (length (entries ++ Some e ∷ [])) order (order ++ length entries ∷ []) c.self.inside.lowers c.self.inside.uppers
     c.self.inside.lowers c.self.inside.uppers (KeepsLists-refl c.self.inside.lowers) (KeepsLists-refl c.self.inside.uppers) c.self.invariant.links
-    (λ s m. Contains-append_left order (length entries ∷ []) s m) (omega (arith, length-append entries (Some e ∷ [])))
-    (omega (arith, length-append entries (Some e ∷ []), room.lowers_room)) (omega (arith, length-append entries (Some e ∷ []), room.uppers_room)) in
+    (λ s m. Contains-append_left order (length entries ∷ []) s m) (omega (arith, length-append entries (Some e ∷ []))) in
     record {
       rules = rw (c.put_rule.ensures.entries, c.put_rule.ensures.order, c.put_rule.ensures.places) held;
       links = rw (c.put_rule.ensures.entries, c.put_rule.ensures.order) linked;
@@ -69,3 +69,12 @@ returns-clause-uppers c =
     ∙ ap (λ (ps : List ℕ). by_place (order ++ length entries ∷ []) ps c.self.inside.uppers) c.put_rule.ensures.places
     ∙ by_place-add (length entries) order c.self.inside.places.items c.self.inside.uppers c.self.inside.uppers (KeepsLists-refl c.self.inside.uppers)
     c.self.invariant.rules.within c.self.invariant.rules.as_long c.self.invariant.links.upper_there (c.self.invariant.links.upper_past (length entries) (omega arith)))
+
+pub returns-clause-numbers : goal.returns-clause-numbers
+returns-clause-numbers c =
+    omega (
+      arith,
+      ap length c.put_rule.ensures.entries,
+      length-append c.self.inside.entries.items (Some c.in-ForRule.entry ∷ []),
+      ap (λ (v : IndexLists). v.numbers) c.self.view_is,
+    )

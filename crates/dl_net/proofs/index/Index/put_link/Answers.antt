@@ -1,6 +1,5 @@
-use Rattle.std.proofs.Common.{◌≡◌, ◌<◌, [], ◌∷◌, ◌++◌, length, set, sym, subst, arith}
+use Rattle.std.proofs.Common.{◌≡◌, [], ◌∷◌, ◌++◌, length, set, sym, subst}
 use Rattle.std.specs.Prelude.{IfSome}
-use Rattle.std.proofs.lemmas.List.Elements.{All-contains}
 use Rattle.dl_net.specs.declared.entry.Room.{Room}
 use Rattle.dl_net.specs.Lines.{IndexLists, list_of}
 use Rattle.dl_net.specs.Indexes.{by_place}
@@ -12,16 +11,12 @@ pub invariant_of-self : goal.invariant_of-self
 invariant_of-self c =
     let room : HasLinkRoom c.self.inside c.in-ForLink.link =
     subst (λ (r : Room). HasRoom c.self.inside r) (sym c.in-ForLink.ensures.value) c.self.invariant.room in
-    let upper : c.in-ForLink.link.upper < length c.self.inside.entries.items =
-    All-contains (λ s. s < length c.self.inside.entries.items) c.self.inside.order.items c.in-ForLink.link.upper c.self.invariant.rules.within room.upper in
-    let lower : c.in-ForLink.link.lower < length c.self.inside.entries.items =
-    All-contains (λ s. s < length c.self.inside.entries.items) c.self.inside.order.items c.in-ForLink.link.lower c.self.invariant.rules.within room.lower in
     record {
       rules = c.self.invariant.rules;
       links = HasLinks-put (length c.self.inside.entries.items) c.self.inside.order.items c.self.inside.lowers c.self.inside.uppers c.push.new.self c.push-in-ForLink.new.self
           c.in-ForLink.link.upper c.in-ForLink.link.lower c.self.invariant.links c.self.invariant.rules.within room.upper room.lower
-          (record { within = omega (arith, upper, c.self.invariant.links.lower_wide); lists = c.push.ensures.lists })
-          (record { within = omega (arith, lower, c.self.invariant.links.upper_wide); lists = c.push-in-ForLink.ensures.lists });
+          (record { within = room.lowers_wide; lists = c.push.ensures.lists })
+          (record { within = room.uppers_wide; lists = c.push-in-ForLink.ensures.lists });
       room = rw c.replace.ensures.after tt;
     }
 
@@ -29,22 +24,18 @@ pub returns-clause-lowers : goal.returns-clause-lowers
 returns-clause-lowers c =
     let room : HasLinkRoom c.self.inside c.in-ForLink.link =
     subst (λ (r : Room). HasRoom c.self.inside r) (sym c.in-ForLink.ensures.value) c.self.invariant.room in
-    let upper : c.in-ForLink.link.upper < length c.self.inside.entries.items =
-    All-contains (λ s. s < length c.self.inside.entries.items) c.self.inside.order.items c.in-ForLink.link.upper c.self.invariant.rules.within room.upper in
     subst (λ (v : IndexLists). IfSome v.linking (λ m. by_place c.self.inside.order.items c.self.inside.places.items c.push.new.self ≡ set v.lowers m.upper (list_of v.lowers m.upper ++ m.lower ∷ []))) c.self.view_is
     (subst (λ (r : Room). IfSome (linking_of c.self.inside.places.items r) (λ m. by_place c.self.inside.order.items c.self.inside.places.items c.push.new.self
     ≡ set (by_place c.self.inside.order.items c.self.inside.places.items c.self.inside.lowers) m.upper (list_of (by_place c.self.inside.order.items c.self.inside.places.items c.self.inside.lowers) m.upper ++ m.lower ∷ []))) c.in-ForLink.ensures.value
     (by_place-put c.self.inside.order.items c.self.inside.places.items c.self.inside.lowers c.push.new.self c.in-ForLink.link.upper c.in-ForLink.link.lower
-    c.self.invariant.rules.placed room.upper (record { within = omega (arith, upper, c.self.invariant.links.lower_wide); lists = c.push.ensures.lists })))
+    c.self.invariant.rules.placed room.upper (record { within = room.lowers_wide; lists = c.push.ensures.lists })))
 
 pub returns-clause-uppers : goal.returns-clause-uppers
 returns-clause-uppers c =
     let room : HasLinkRoom c.self.inside c.in-ForLink.link =
     subst (λ (r : Room). HasRoom c.self.inside r) (sym c.in-ForLink.ensures.value) c.self.invariant.room in
-    let lower : c.in-ForLink.link.lower < length c.self.inside.entries.items =
-    All-contains (λ s. s < length c.self.inside.entries.items) c.self.inside.order.items c.in-ForLink.link.lower c.self.invariant.rules.within room.lower in
     subst (λ (v : IndexLists). IfSome v.linking (λ m. by_place c.self.inside.order.items c.self.inside.places.items c.push-in-ForLink.new.self ≡ set v.uppers m.lower (list_of v.uppers m.lower ++ m.upper ∷ []))) c.self.view_is
     (subst (λ (r : Room). IfSome (linking_of c.self.inside.places.items r) (λ m. by_place c.self.inside.order.items c.self.inside.places.items c.push-in-ForLink.new.self
     ≡ set (by_place c.self.inside.order.items c.self.inside.places.items c.self.inside.uppers) m.lower (list_of (by_place c.self.inside.order.items c.self.inside.places.items c.self.inside.uppers) m.lower ++ m.upper ∷ []))) c.in-ForLink.ensures.value
     (by_place-put c.self.inside.order.items c.self.inside.places.items c.self.inside.uppers c.push-in-ForLink.new.self c.in-ForLink.link.lower c.in-ForLink.link.upper
-    c.self.invariant.rules.placed room.lower (record { within = omega (arith, lower, c.self.invariant.links.upper_wide); lists = c.push-in-ForLink.ensures.lists })))
+    c.self.invariant.rules.placed room.lower (record { within = room.uppers_wide; lists = c.push-in-ForLink.ensures.lists })))

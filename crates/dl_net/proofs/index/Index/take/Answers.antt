@@ -1,74 +1,32 @@
 use Rattle.std.proofs.Common.{◌≡◌, ◌<◌, ℕ, None, Option, List, length, get_or, set, map, sym, ap, subst, ◌∙◌, arith}
-use Rattle.std.specs.Prelude.{All, Contains, remove}
+use Rattle.std.specs.Prelude.{All, remove}
 use Rattle.std.proofs.Math.ListN.{length-map, length-set}
 use Rattle.std.proofs.lemmas.List.Edits.{get_or-remove_below}
-use Rattle.std.proofs.lemmas.List.Elements.{All-contains, All-weaker}
+use Rattle.std.proofs.lemmas.List.Elements.{All-contains}
 use Rattle.dl_base.specs.Paths.{IsDistinct}
 use Rattle.dl_net.specs.declared.entry.Entry.{Entry}
-use Rattle.dl_net.specs.Tables.{list_at}
 use Rattle.dl_net.specs.Lines.{IndexLists, list_without, IsKeptEntry, entry_at}
 use Rattle.dl_net.specs.Indexes.{line_at, place_in, by_place, HasRules, HasLinks}
 use Rattle.dl_net.proofs.RuleLemmas.{All-by_member}
 use Rattle.dl_net.proofs.TakeLemmas.{HasRules-take, HasLinks-take, rows_taken, lines_left, moved_lists, left_member, left_length, left_distinct}
-use Rattle.dl_net.proofs.OrderLemmas.{order_still, read_at, read_member}
+use Rattle.dl_net.proofs.OrderLemmas.{read_member}
 use Rattle.dl_net.proofs.index.Index.take.Goals as goal
-
-pub number_at-rule-requires-clause-still : goal.number_at-rule-requires-clause-still
-number_at-rule-requires-clause-still c =
-    order_still c.self.inside.entries.items c.self.inside.order.items c.self.inside.places.items c.self.inside.heads c.self.inside.uses c.self.invariant.rules
-    c.as_slice.result.now c.len.result c.as_slice.ensures.value (omega (arith, c.len.ensures))
 
 pub take_rule-requires-clause-within : goal.take_rule-requires-clause-within
 take_rule-requires-clause-within c =
     let order : List ℕ = c.self.inside.order.items in
     let len : length order ≡ length c.args.self.now.lines =
     sym (length-map order (line_at c.self.inside.entries.items)) ∙ ap (λ (v : IndexLists). length v.lines) c.self.view_is in
-    All-contains (λ s. s < length c.self.inside.entries.items) order c.number_at-rule.result c.self.invariant.rules.within
-    (read_member order c.as_slice.result.now c.args.place c.number_at-rule.result c.as_slice.ensures.value c.number_at-rule.ensures (omega (arith, len, c.requires.place)))
+    All-contains (λ s. s < length c.self.inside.entries.items) order c.read-rule.result c.self.invariant.rules.within
+    (read_member order c.args.place c.read-rule.result c.read-rule.ensures (omega (arith, len, c.requires.place)))
 
 pub take_rule-requires-clause-kept : goal.take_rule-requires-clause-kept
 take_rule-requires-clause-kept c =
     let order : List ℕ = c.self.inside.order.items in
     let len : length order ≡ length c.args.self.now.lines =
     sym (length-map order (line_at c.self.inside.entries.items)) ∙ ap (λ (v : IndexLists). length v.lines) c.self.view_is in
-    All-contains (λ s. IsKeptEntry (length c.self.inside.heads.lists) (entry_at c.self.inside.entries.items s)) order c.number_at-rule.result c.self.invariant.rules.kept
-    (read_member order c.as_slice.result.now c.args.place c.number_at-rule.result c.as_slice.ensures.value c.number_at-rule.ensures (omega (arith, len, c.requires.place)))
-
-pub take_links-requires-clause-lower_within : goal.take_links-requires-clause-lower_within
-take_links-requires-clause-lower_within c =
-    let order : List ℕ = c.self.inside.order.items in
-    let len : length order ≡ length c.args.self.now.lines =
-    sym (length-map order (line_at c.self.inside.entries.items)) ∙ ap (λ (v : IndexLists). length v.lines) c.self.view_is in
-    let x : c.number_at-rule.result < length c.self.inside.entries.items =
-    All-contains (λ s. s < length c.self.inside.entries.items) order c.number_at-rule.result c.self.invariant.rules.within
-    (read_member order c.as_slice.result.now c.args.place c.number_at-rule.result c.as_slice.ensures.value c.number_at-rule.ensures (omega (arith, len, c.requires.place))) in
-    omega (arith, x, c.self.invariant.links.lower_wide)
-
-pub take_links-requires-clause-upper_within : goal.take_links-requires-clause-upper_within
-take_links-requires-clause-upper_within c =
-    let order : List ℕ = c.self.inside.order.items in
-    let len : length order ≡ length c.args.self.now.lines =
-    sym (length-map order (line_at c.self.inside.entries.items)) ∙ ap (λ (v : IndexLists). length v.lines) c.self.view_is in
-    let x : c.number_at-rule.result < length c.self.inside.entries.items =
-    All-contains (λ s. s < length c.self.inside.entries.items) order c.number_at-rule.result c.self.invariant.rules.within
-    (read_member order c.as_slice.result.now c.args.place c.number_at-rule.result c.as_slice.ensures.value c.number_at-rule.ensures (omega (arith, len, c.requires.place))) in
-    omega (arith, x, c.self.invariant.links.upper_wide)
-
-pub take_links-requires-clause-lower : goal.take_links-requires-clause-lower
-take_links-requires-clause-lower c =
-    All-weaker (Contains c.self.inside.order.items) (λ s. s < length c.self.inside.uppers.lists)
-    (λ s m. let less : s < length c.self.inside.entries.items =
-    All-contains (λ t. t < length c.self.inside.entries.items) c.self.inside.order.items s c.self.invariant.rules.within m in
-    omega (arith, less, c.self.invariant.links.upper_wide))
-    (list_at c.self.inside.lowers c.number_at-rule.result) (c.self.invariant.links.lower_there c.number_at-rule.result)
-
-pub take_links-requires-clause-upper : goal.take_links-requires-clause-upper
-take_links-requires-clause-upper c =
-    All-weaker (Contains c.self.inside.order.items) (λ s. s < length c.self.inside.lowers.lists)
-    (λ s m. let less : s < length c.self.inside.entries.items =
-    All-contains (λ t. t < length c.self.inside.entries.items) c.self.inside.order.items s c.self.invariant.rules.within m in
-    omega (arith, less, c.self.invariant.links.lower_wide))
-    (list_at c.self.inside.uppers c.number_at-rule.result) (c.self.invariant.links.upper_there c.number_at-rule.result)
+    All-contains (λ s. IsKeptEntry (length c.self.inside.heads.lists) (entry_at c.self.inside.entries.items s)) order c.read-rule.result c.self.invariant.rules.kept
+    (read_member order c.args.place c.read-rule.result c.read-rule.ensures (omega (arith, len, c.requires.place)))
 
 pub place_from-requires-clause-distinct : goal.place_from-requires-clause-distinct
 place_from-requires-clause-distinct c =
@@ -77,9 +35,9 @@ place_from-requires-clause-distinct c =
     let len : length order ≡ length c.args.self.now.lines =
     sym (length-map order (line_at c.self.inside.entries.items)) ∙ ap (λ (v : IndexLists). length v.lines) c.self.view_is in
     let lt : k < length order = omega (arith, len, c.requires.place) in
-    subst (λ (os : List ℕ). IsDistinct os) (sym (c.as_slice-2.ensures.value ∙ c.remove.ensures.items))
-    (left_distinct order c.self.inside.places.items k c.number_at-rule.result c.self.invariant.rules.placed lt
-    (read_at order c.as_slice.result.now k c.number_at-rule.result c.as_slice.ensures.value c.number_at-rule.ensures))
+    subst (λ (os : List ℕ). IsDistinct os) (sym c.remove.ensures.items)
+    (left_distinct order c.self.inside.places.items k c.read-rule.result c.self.invariant.rules.placed lt
+    (sym c.read-rule.ensures))
 
 pub place_from-requires-clause-within : goal.place_from-requires-clause-within
 place_from-requires-clause-within c =
@@ -88,12 +46,12 @@ place_from-requires-clause-within c =
     let len : length order ≡ length c.args.self.now.lines =
     sym (length-map order (line_at c.self.inside.entries.items)) ∙ ap (λ (v : IndexLists). length v.lines) c.self.view_is in
     let lt : k < length order = omega (arith, len, c.requires.place) in
-    let is : get_or order k 0 ≡ c.number_at-rule.result = read_at order c.as_slice.result.now k c.number_at-rule.result c.as_slice.ensures.value c.number_at-rule.ensures in
-    subst (λ (os : List ℕ). All (λ s. s < length c.self.inside.places.items) os) (sym (c.as_slice-2.ensures.value ∙ c.remove.ensures.items))
+    let is : get_or order k 0 ≡ c.read-rule.result = sym c.read-rule.ensures in
+    subst (λ (os : List ℕ). All (λ s. s < length c.self.inside.places.items) os) (sym c.remove.ensures.items)
     (All-by_member (λ s. s < length c.self.inside.places.items) (remove order k)
     (λ s m. let less : s < length c.self.inside.entries.items =
     All-contains (λ t. t < length c.self.inside.entries.items) order s c.self.invariant.rules.within
-    (left_member order c.self.inside.places.items k c.number_at-rule.result c.self.invariant.rules.placed lt is s m) in
+    (left_member order c.self.inside.places.items k c.read-rule.result c.self.invariant.rules.placed lt is s m) in
     omega (arith, less, c.self.invariant.rules.as_long)))
 
 pub place_from-requires-clause-few : goal.place_from-requires-clause-few
@@ -103,11 +61,11 @@ place_from-requires-clause-few c =
     let len : length order ≡ length c.args.self.now.lines =
     sym (length-map order (line_at c.self.inside.entries.items)) ∙ ap (λ (v : IndexLists). length v.lines) c.self.view_is in
     let lt : k < length order = omega (arith, len, c.requires.place) in
-    let is : get_or order k 0 ≡ c.number_at-rule.result = read_at order c.as_slice.result.now k c.number_at-rule.result c.as_slice.ensures.value c.number_at-rule.ensures in
+    let is : get_or order k 0 ≡ c.read-rule.result = sym c.read-rule.ensures in
     omega (
       arith,
-      ap length (c.as_slice-2.ensures.value ∙ c.remove.ensures.items),
-      left_length order c.self.inside.places.items k c.number_at-rule.result c.self.invariant.rules.placed lt is,
+      ap length c.remove.ensures.items,
+      left_length order c.self.inside.places.items k c.read-rule.result c.self.invariant.rules.placed lt is,
       len,
       c.requires.few,
     )
@@ -119,7 +77,7 @@ place_from-requires-clause-before c = λ i before within.
     let len : length order ≡ length c.args.self.now.lines =
     sym (length-map order (line_at c.self.inside.entries.items)) ∙ ap (λ (v : IndexLists). length v.lines) c.self.view_is in
     let lt : k < length order = omega (arith, len, c.requires.place) in
-    ap (λ (os : List ℕ). place_in c.self.inside.places.items (get_or os i 0)) (c.as_slice-2.ensures.value ∙ c.remove.ensures.items)
+    ap (λ (os : List ℕ). place_in c.self.inside.places.items (get_or os i 0)) c.remove.ensures.items
     ∙ ap (place_in c.self.inside.places.items) (get_or-remove_below order k 0 i before lt)
     ∙ c.self.invariant.rules.placed i (omega (arith, before, lt))
 
@@ -129,15 +87,15 @@ invariant_of-self c =
     let order : List ℕ = c.self.inside.order.items in
     let places : List ℕ = c.self.inside.places.items in
     let k : ℕ = c.args.place in
-    let x : ℕ = c.number_at-rule.result in
+    let x : ℕ = c.read-rule.result in
     let places' : List ℕ = c.place_from.new.places.items in
     let len : length order ≡ length c.args.self.now.lines =
     sym (length-map order (line_at c.self.inside.entries.items)) ∙ ap (λ (v : IndexLists). length v.lines) c.self.view_is in
     let lt : k < length order = omega (arith, len, c.requires.place) in
-    let is : get_or order k 0 ≡ x = read_at order c.as_slice.result.now k x c.as_slice.ensures.value c.number_at-rule.ensures in
+    let is : get_or order k 0 ≡ x = sym c.read-rule.ensures in
     let within : x < length entries =
-    All-contains (λ s. s < length entries) order x c.self.invariant.rules.within (read_member order c.as_slice.result.now k x c.as_slice.ensures.value c.number_at-rule.ensures lt) in
-    let left : c.as_slice-2.result.now ≡ remove order k = c.as_slice-2.ensures.value ∙ c.remove.ensures.items in
+    All-contains (λ s. s < length entries) order x c.self.invariant.rules.within (read_member order k x c.read-rule.ensures lt) in
+    let left : c.remove.new.self.items ≡ remove order k = c.remove.ensures.items in
     let placed' : (j : ℕ) → j < length (remove order k) → place_in places' (get_or (remove order k) j 0) ≡ j =
     subst (λ (os : List ℕ). (j : ℕ) → j < length os → place_in places' (get_or os j 0) ≡ j) left c.place_from.ensures.placed in
     let lower = rows_taken x c.self.inside.lowers c.self.inside.uppers c.take_links.new.lowers c.self.invariant.links.turned c.take_links.ensures.lowers in
@@ -147,8 +105,7 @@ invariant_of-self c =
     c.place_from.ensures.same c.take_rule.ensures.heads c.take_rule.ensures.heads_same c.take_rule.ensures.uses c.take_rule.ensures.uses_same in
     let linked : HasLinks (length entries) (remove order k) c.take_links.new.lowers c.take_links.new.uppers =
     HasLinks-take (length entries) order places c.self.inside.lowers c.self.inside.uppers c.take_links.new.lowers c.take_links.new.uppers c.self.invariant.links k x
-    c.self.invariant.rules.placed lt is within lower.0 upper.0 lower.1 upper.1
-    (omega (arith, c.take_links.ensures.lower_same, c.self.invariant.links.lower_wide)) (omega (arith, c.take_links.ensures.upper_same, c.self.invariant.links.upper_wide)) in
+    c.self.invariant.rules.placed lt is within lower.0 upper.0 lower.1 upper.1 in
     record {
       rules = rw (c.take_rule.ensures.entries, c.remove.ensures.items) held;
       links = rw (c.take_rule.ensures.entries, length-set entries x None, c.remove.ensures.items) linked;
@@ -160,11 +117,11 @@ returns-clause-lines c =
     let entries : List (Option Entry) = c.self.inside.entries.items in
     let order : List ℕ = c.self.inside.order.items in
     let k : ℕ = c.args.place in
-    let x : ℕ = c.number_at-rule.result in
+    let x : ℕ = c.read-rule.result in
     let len : length order ≡ length c.args.self.now.lines =
     sym (length-map order (line_at c.self.inside.entries.items)) ∙ ap (λ (v : IndexLists). length v.lines) c.self.view_is in
     let lt : k < length order = omega (arith, len, c.requires.place) in
-    let is : get_or order k 0 ≡ x = read_at order c.as_slice.result.now k x c.as_slice.ensures.value c.number_at-rule.ensures in
+    let is : get_or order k 0 ≡ x = sym c.read-rule.ensures in
     subst (λ (v : IndexLists). map (line_at c.take_rule.new.entries.items) c.remove.new.self.items ≡ remove v.lines k) c.self.view_is
     (ap (λ (es : List (Option Entry)). map (line_at es) c.remove.new.self.items) c.take_rule.ensures.entries
     ∙ ap (map (line_at (set entries x None))) c.remove.ensures.items
@@ -175,13 +132,13 @@ returns-clause-lowers c =
     let order : List ℕ = c.self.inside.order.items in
     let places : List ℕ = c.self.inside.places.items in
     let k : ℕ = c.args.place in
-    let x : ℕ = c.number_at-rule.result in
+    let x : ℕ = c.read-rule.result in
     let places' : List ℕ = c.place_from.new.places.items in
     let len : length order ≡ length c.args.self.now.lines =
     sym (length-map order (line_at c.self.inside.entries.items)) ∙ ap (λ (v : IndexLists). length v.lines) c.self.view_is in
     let lt : k < length order = omega (arith, len, c.requires.place) in
-    let is : get_or order k 0 ≡ x = read_at order c.as_slice.result.now k x c.as_slice.ensures.value c.number_at-rule.ensures in
-    let left : c.as_slice-2.result.now ≡ remove order k = c.as_slice-2.ensures.value ∙ c.remove.ensures.items in
+    let is : get_or order k 0 ≡ x = sym c.read-rule.ensures in
+    let left : c.remove.new.self.items ≡ remove order k = c.remove.ensures.items in
     let placed' : (j : ℕ) → j < length (remove order k) → place_in places' (get_or (remove order k) j 0) ≡ j =
     subst (λ (os : List ℕ). (j : ℕ) → j < length os → place_in places' (get_or os j 0) ≡ j) left c.place_from.ensures.placed in
     let lower = rows_taken x c.self.inside.lowers c.self.inside.uppers c.take_links.new.lowers c.self.invariant.links.turned c.take_links.ensures.lowers in
@@ -194,16 +151,20 @@ returns-clause-uppers c =
     let order : List ℕ = c.self.inside.order.items in
     let places : List ℕ = c.self.inside.places.items in
     let k : ℕ = c.args.place in
-    let x : ℕ = c.number_at-rule.result in
+    let x : ℕ = c.read-rule.result in
     let places' : List ℕ = c.place_from.new.places.items in
     let len : length order ≡ length c.args.self.now.lines =
     sym (length-map order (line_at c.self.inside.entries.items)) ∙ ap (λ (v : IndexLists). length v.lines) c.self.view_is in
     let lt : k < length order = omega (arith, len, c.requires.place) in
-    let is : get_or order k 0 ≡ x = read_at order c.as_slice.result.now k x c.as_slice.ensures.value c.number_at-rule.ensures in
-    let left : c.as_slice-2.result.now ≡ remove order k = c.as_slice-2.ensures.value ∙ c.remove.ensures.items in
+    let is : get_or order k 0 ≡ x = sym c.read-rule.ensures in
+    let left : c.remove.new.self.items ≡ remove order k = c.remove.ensures.items in
     let placed' : (j : ℕ) → j < length (remove order k) → place_in places' (get_or (remove order k) j 0) ≡ j =
     subst (λ (os : List ℕ). (j : ℕ) → j < length os → place_in places' (get_or os j 0) ≡ j) left c.place_from.ensures.placed in
     let upper = rows_taken x c.self.inside.uppers c.self.inside.lowers c.take_links.new.uppers (λ s u m. c.self.invariant.links.turned_back u s m) c.take_links.ensures.uppers in
     subst (λ (v : IndexLists). by_place c.remove.new.self.items places' c.take_links.new.uppers ≡ map (list_without k) (remove v.uppers k)) c.self.view_is
     (ap (λ (os : List ℕ). by_place os places' c.take_links.new.uppers) c.remove.ensures.items
     ∙ moved_lists order places k x c.self.invariant.rules.placed lt is places' placed' c.self.inside.uppers c.take_links.new.uppers c.self.invariant.links.upper_there upper.1)
+
+pub returns-clause-numbers : goal.returns-clause-numbers
+returns-clause-numbers c =
+    ap length c.take_rule.ensures.entries ∙ length-set c.self.inside.entries.items c.read-rule.result None ∙ ap (λ (v : IndexLists). v.numbers) c.self.view_is

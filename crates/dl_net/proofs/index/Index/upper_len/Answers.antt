@@ -2,7 +2,7 @@ use Rattle.std.proofs.Common.{arith}
 use Rattle.dl_net.proofs.OrderLemmas.{order_still}
 use Rattle.dl_net.proofs.index.Index.upper_len.Goals as goal
 
-pub number_at-inner-requires-clause-still : goal.number_at-inner-requires-clause-still
-number_at-inner-requires-clause-still c =
+pub number_of-requires : goal.number_of-requires
+number_of-requires c =
     order_still c.self.inside.entries.items c.self.inside.order.items c.self.inside.places.items c.self.inside.heads c.self.inside.uses c.self.invariant.rules
-    c.as_slice.result.now c.len-2.result c.as_slice.ensures.value (omega (arith, c.len-2.ensures))
+    c.len.result (omega (arith, c.len.ensures))

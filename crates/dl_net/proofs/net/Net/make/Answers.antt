@@ -16,7 +16,7 @@ whole-requires c = record {
   facts_named = subst (λ (T : TheoryLists). All (Contains c.make-names.result.literals) T.facts) (sym c.make-theory.ensures) (All-nil (Contains c.make-names.result.literals));
   facts = record {
     marked = λ n lt. absurd (omega (arith, lt, ap (λ (m : Numbering). length m.literals) c.make-names.ensures));
-    within = omega arith;
+    within = omega (arith, ap length c.make-facts.ensures);
   };
   lines = ap (λ (x : IndexLists). x.lines) c.make-index.ensures ∙ sym (ap (λ (T : TheoryLists). map (line_in c.make-names.result.literals) T.rules) c.make-theory.ensures);
   lowers = ap (λ (x : IndexLists). x.lowers) c.make-index.ensures

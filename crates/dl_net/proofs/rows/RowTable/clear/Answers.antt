@@ -1,13 +1,21 @@
-use Rattle.std.proofs.Common.{◌≡◌, ◌<◌, [], length, set, map, sym, subst}
+use Rattle.std.proofs.Common.{◌≡◌, ℕ, ◌≤◌, [], length, get_or, set, map, cond, refl, subst, arith}
+use Rattle.std.specs.Prelude.{◌==◌}
 use Rattle.std.proofs.Math.ListN.{length-map}
-use Rattle.dl_net.specs.Tables.{Table}
-use Rattle.dl_net.proofs.TableLemmas.{map_written}
+use Rattle.dl_net.specs.Tables.{Table, list_at}
+use Rattle.dl_net.proofs.TableLemmas.{map_written, written_at, idle_at}
 use Rattle.dl_net.proofs.rows.RowTable.clear.Goals as goal
 
-pub returns : goal.returns
-returns c =
-    let here : c.args.number < length c.self.inside.rows.items =
-    subst (λ k. c.args.number < k) (length-map c.self.inside.rows.items (λ v. v.items))
-    (subst (λ (t : Table). c.args.number < length t.lists) (sym c.self.view_is) c.requires) in
-    subst (λ (t : Table). map (λ v. v.items) (set c.self.inside.rows.items c.args.number c.clear.new.self) ≡ set t.lists c.args.number []) c.self.view_is
-    (map_written (λ v. v.items) c.self.inside.rows.items c.args.number c.index_mut-row.result.now c.clear.new.self here c.index_mut-row.ensures.value [] c.clear.ensures.items)
+pub returns-then-number-len-clause-lists : goal.returns-then-number-len-clause-lists
+returns-then-number-len-clause-lists c =
+    idle_at (λ _. []) refl c.args.self.now c.args.number
+    (subst (λ (t : Table). length t.lists ≤ c.args.number) c.self.view_is (omega (arith, length-map c.self.inside.rows.items (λ v. v.items))))
+
+pub returns-clause-lists : goal.returns-clause-lists
+returns-clause-lists c =
+    subst (λ (t : Table). (n : ℕ) → get_or (map (λ v. v.items) (set c.self.inside.rows.items c.args.number c.clear.new.self)) n []
+    ≡ cond (n == c.args.number) [] (list_at t n)) c.self.view_is
+    (written_at (λ _. []) (record { lists = map (λ v. v.items) c.self.inside.rows.items; spare = [] })
+    (record { lists = map (λ v. v.items) (set c.self.inside.rows.items c.args.number c.clear.new.self); spare = [] }) c.args.number
+    (omega (arith, length-map c.self.inside.rows.items (λ v. v.items)))
+    (map_written (λ v. v.items) c.self.inside.rows.items c.args.number c.index_mut-row.result.now c.clear.new.self (omega arith) c.index_mut-row.ensures.value []
+    c.clear.ensures))
