@@ -8,3 +8,8 @@ mod Certified
 mod Fired
 mod Answered
 mod Wanting
+mod Parts
+mod Fitting
+mod Cutting
+mod Copying
+mod Behind

@@ -4,3 +4,4 @@ pub mod Unnumbered
 pub mod Ways
 pub mod Kinds
 pub mod Wanted
+pub mod Part

@@ -1,93 +1,98 @@
-//! The answer on a literal.
+//! The answer on a literal, at the cost of what matters for it.
 
-ghost use Rattle.std.specs.Prelude.{◌≡◌, ◌≤◌, ◌<◌, length, IfOk, Contains};
-ghost use Rattle.dl_lit.specs.declared.literal.Family.{Family};
-ghost use Rattle.dl_lit.specs.Literal.{tagged};
-ghost use Rattle.dl_theory.specs.Derivations.{Follows};
-ghost use Rattle.dl_theory.specs.Verdicts.{needs, DerivesAt, Fits};
+ghost use Rattle.std.specs.Prelude.{◌≡◌, ◌<◌, length, All, IfOk};
+ghost use Rattle.dl_theory.specs.Verdicts.{Fits};
+ghost use Rattle.dl_theory.specs.Marks.{AreRight};
 ghost use Rattle.dl_marks.specs.Marks.{places};
 ghost use Rattle.dl_net.specs.Numbers.{literal_at};
-ghost use Rattle.dl_theory.specs.Marks.{AreRight};
-ghost use Rattle.dl_fill.specs.Filled.{IsRight, stands};
-ghost use Rattle.dl_derive.specs.Back.{IsBack};
+ghost use Rattle.dl_fill.specs.Filled.{stands};
+ghost use Rattle.dl_derive.specs.Part.{HasAllBehind, IsOf, IsPart};
 
 use crate::back::back;
-use crate::block::block_steps;
-use crate::definite::definite_steps;
-use crate::gap::gap;
-use crate::pair::pair_steps;
+use crate::copied::copied_marks;
+use crate::found::Found;
+use crate::part::part;
 use crate::unnumbered::refuted;
+use crate::whole::certify_whole;
 use dl_base::Memory;
-use dl_lit::{Family, Literal, Tag};
+use dl_lit::{Family, Literal};
 use dl_marks::Marks;
-use dl_net::{Net, Region};
-use dl_theory::{Answer, Certificate, TaggedList, Verdict};
+use dl_net::Net;
+use dl_theory::{Answer, Certificate, Verdict};
 use std::alloc::Global;
 
-/// A derivation that ends with the literal, the family and the sign, of what matters.
-fn steps_to(
+/// The answer on a literal of the part that matters for some numbers, from a net of that part.
+fn certify_part(
     alloc: Global,
     net: &Net,
     marks: &Marks,
-    region: &Region,
-    plus: bool,
+    found: &Found,
+    small: &Net,
     family: Family,
-    number: usize,
-) -> Result<TaggedList, Memory>
-    requires number { number < length net.now.names }
-    requires back { IsBack net.now number region.now }
-    requires room { length net.now.names ≤ places marks.now }
-    requires right { (f : Family) → Contains (needs family) f → IsRight net.now marks.now f }
-    requires follows { Follows net.now.theory (tagged plus family (literal_at net.now number)) }
-    ensures { IfOk result (DerivesAt net.now.theory family (literal_at net.now number) (tagged plus family (literal_at net.now number))) }
+    literal: &Literal,
+) -> Result<Answer, Memory>
+    requires right { AreRight net.now.theory net.now.names (places marks.now) (stands marks.now) }
+    requires found { All (λ n. n < length net.now.names) found.now.members }
+    requires closed { HasAllBehind net.now.theory (IsOf net.now found.now.members) }
+    requires part { IsPart (IsOf net.now found.now.members) net.now.theory small.now.theory }
+    requires literal { IsOf net.now found.now.members literal.now }
+    ensures { IfOk result (Fits net.now.theory family literal.now) }
 {
-    match family {
-        Family::Definite => definite_steps(alloc, net, marks, region, plus, number),
-        Family::Blocking => block_steps(alloc, net, marks, region, plus, number),
-        Family::Propagating => pair_steps(alloc, net, marks, region, plus, family, number),
-        Family::Support => pair_steps(alloc, net, marks, region, plus, family, number),
-    }
+    let copy = copied_marks(alloc, net, marks, found, small)?;
+    let answer = certify_whole(alloc, small, &copy, family, literal)?;
+    Ok(answer)
+}
+
+/// A net of the part of the theory that matters for the numbers. `Memory` where there is none for it.
+fn part_net(alloc: Global, net: &Net, found: &Found) -> Result<Net, Memory>
+    requires found { All (λ n. n < length net.now.names) found.now.members }
+    requires closed { HasAllBehind net.now.theory (IsOf net.now found.now.members) }
+    ensures { IfOk result (λ small. IsPart (IsOf net.now found.now.members) net.now.theory small.theory) }
+{
+    let theory = part(alloc, net, found)?;
+    Net::of(alloc, theory)
+}
+
+/// The answer on a literal with one of the numbers, which have all that lies behind them.
+fn certify_found(
+    alloc: Global,
+    net: &Net,
+    marks: &Marks,
+    found: &Found,
+    family: Family,
+    literal: &Literal,
+) -> Result<Answer, Memory>
+    requires right { AreRight net.now.theory net.now.names (places marks.now) (stands marks.now) }
+    requires found { All (λ n. n < length net.now.names) found.now.members }
+    requires closed { HasAllBehind net.now.theory (IsOf net.now found.now.members) }
+    requires literal { IsOf net.now found.now.members literal.now }
+    ensures { IfOk result (Fits net.now.theory family literal.now) }
+{
+    let small = part_net(alloc, net, found)?;
+    let answer = certify_part(alloc, net, marks, found, &small, family, literal);
+    drop(small);
+    answer
 }
 
 /// The answer on a literal that has a number.
-fn answer_at(
+fn certify_number(
     alloc: Global,
     net: &Net,
     marks: &Marks,
     family: Family,
     number: usize,
+    literal: &Literal,
 ) -> Result<Answer, Memory>
+    requires right { AreRight net.now.theory net.now.names (places marks.now) (stands marks.now) }
     requires number { number < length net.now.names }
-    requires room { length net.now.names ≤ places marks.now }
-    requires right { (f : Family) → Contains (needs family) f → IsRight net.now marks.now f }
-    ensures { IfOk result (Fits net.now.theory family (literal_at net.now number)) }
+    requires literal { literal_at net.now number ≡ literal.now }
+    ensures { IfOk result (Fits net.now.theory family literal.now) }
 {
     let _names = net.names();
-    let region = back(alloc, net, number)?;
-    let plus = Tag { plus: true, family };
-    if marks.get(plus, number) {
-        let steps = steps_to(alloc, net, marks, &region, true, family, number)?;
-        return Ok(Answer {
-            verdict: Verdict::Proved,
-            certificate: Certificate::Derivation(steps),
-        });
-    }
-    let minus = Tag {
-        plus: false,
-        family,
-    };
-    if marks.get(minus, number) {
-        let steps = steps_to(alloc, net, marks, &region, false, family, number)?;
-        return Ok(Answer {
-            verdict: Verdict::Refuted,
-            certificate: Certificate::Derivation(steps),
-        });
-    }
-    let members = gap(alloc, net, marks, family, &region)?;
-    Ok(Answer {
-        verdict: Verdict::Neither,
-        certificate: Certificate::Gap(members),
-    })
+    let found = back(alloc, net, number)?;
+    let answer = certify_found(alloc, net, marks, &found, family, literal);
+    drop(found);
+    answer
 }
 
 /// The answer on a literal in a family, with its certificate, where marks are right. `Memory` where there is none for it.
@@ -104,7 +109,7 @@ pub fn certify(
     let _names = net.names();
     match net.find(literal) {
         Some(number) => {
-            let answer = answer_at(alloc, net, marks, family, number)?;
+            let answer = certify_number(alloc, net, marks, family, number, literal)?;
             Ok(answer)
         }
         None => {

@@ -1,5 +1,4 @@
-use Rattle.std.proofs.Common.{List, inl, sym, ◌∙◌, subst}
-use Rattle.dl_lit.specs.declared.literal.Literal.{Literal}
+use Rattle.std.proofs.Common.{List, inl, sym, subst, ◌∙◌}
 use Rattle.dl_lit.specs.declared.literal.Tagged.{Tagged}
 use Rattle.dl_theory.specs.declared.answer.Verdict.TheVariants.{Refuted}
 use Rattle.dl_theory.specs.declared.answer.Certificate.TheVariants as certificate
@@ -9,10 +8,8 @@ use Rattle.dl_derive.proofs.Answered.{found}
 use Rattle.dl_derive.proofs.Absent.{refuted_fits}
 use Rattle.dl_derive.proofs.answer.certify.Goals as goal
 
-pub returns-in_ok-answer-in-Some : goal.returns-in_ok-answer-in-Some
-returns-in_ok-answer-in-Some c =
-    let there = found c.args.net.now c.args.literal.now c.in-Some.number (sym c.find.ensures.number ∙ c.in-Some.is) in
-    subst (λ (q : Literal). Fits c.args.net.now.theory c.args.family q c.in_ok-answer-in-Some.answer) there.1 c.in_ok-answer-in-Some.ensures
+pub certify_number-requires-clause-literal : goal.certify_number-requires-clause-literal
+certify_number-requires-clause-literal c = (found c.args.net.now c.args.literal.now c.in-Some.number (sym c.find.ensures.number ∙ c.in-Some.is)).1
 
 pub returns-in_ok-steps-in-None : goal.returns-in_ok-steps-in-None
 returns-in_ok-steps-in-None c =

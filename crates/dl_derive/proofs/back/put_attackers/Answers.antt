@@ -6,7 +6,7 @@ use Rattle.dl_fill.proofs.Reading.{attacker_inside}
 use Rattle.dl_derive.proofs.back.put_attackers.Goals as goal
 
 pub loop-attacker-init : goal.loop-attacker-init
-loop-attacker-init c = record { gains = front_starts Is (attackers_row c.args.net.now (literal_at c.args.net.now c.args.number)) c.args.region.now }
+loop-attacker-init c = record { gains = front_starts Is (attackers_row c.args.net.now (literal_at c.args.net.now c.args.number)) c.args.found.now }
 
 pub put-requires : goal.put-requires
 put-requires c =
@@ -17,12 +17,12 @@ pub loop-attacker-preserved : goal.loop-attacker-preserved
 loop-attacker-preserved c = record {
   gains =
       front_goes Is (attackers_row c.args.net.now (literal_at c.args.net.now c.args.number)) c.loop-attacker.at c.in-Some.attacker
-      c.args.region.now c.loop-attacker.region c.put.new.self (sym c.attacker.ensures ∙ c.in-Some.is) c.loop-attacker.invariant.gains
-      (gains_one c.loop-attacker.region c.put.new.self c.in-Some.attacker c.put.ensures.bound c.put.ensures.there c.put.ensures.new);
+      c.args.found.now c.loop-attacker.found c.put.new.self (sym c.attacker.ensures ∙ c.in-Some.is) c.loop-attacker.invariant.gains
+      (gains_one c.loop-attacker.found c.put.new.self c.in-Some.attacker c.put.ensures.bound c.put.ensures.there c.in_ok-put.ensures.new);
 }
 
 pub returns : goal.returns
 returns c =
-    front_ends Is (attackers_row c.args.net.now (literal_at c.args.net.now c.args.number)) c.loop-attacker.at c.args.region.now c.loop-attacker.region
+    front_ends Is (attackers_row c.args.net.now (literal_at c.args.net.now c.args.number)) c.loop-attacker.at c.args.found.now c.loop-attacker.found
     (none_past (attackers_row c.args.net.now (literal_at c.args.net.now c.args.number)) c.loop-attacker.at (sym c.attacker.ensures ∙ c.in_default.is))
     c.loop-attacker.invariant.gains

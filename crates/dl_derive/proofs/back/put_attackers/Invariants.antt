@@ -6,7 +6,7 @@ use Rattle.dl_derive.proofs.back.put_attackers.Given as goal
 
 abbrev pub invariant-loop-attacker : goal.invariant-loop-attacker
 invariant-loop-attacker l = record {
-  gains : Gains (InFront Is (attackers_row l.net (literal_at l.net l.number)) l.at) l.fn.region l.region;
+  gains : Gains (InFront Is (attackers_row l.net (literal_at l.net l.number)) l.at) l.fn.found l.found;
 }
 
 abbrev pub decreases-loop-attacker : goal.decreases-loop-attacker

@@ -8,7 +8,7 @@ use Rattle.dl_derive.proofs.Resting.{body_inside}
 use Rattle.dl_derive.proofs.back.put_body.Goals as goal
 
 pub loop-at-init : goal.loop-at-init
-loop-at-init c = record { gains = front_starts Is (back c.args.net.now Uses c.args.rule) c.args.region.now }
+loop-at-init c = record { gains = front_starts Is (back c.args.net.now Uses c.args.rule) c.args.found.now }
 
 pub put-requires : goal.put-requires
 put-requires c =
@@ -21,17 +21,17 @@ pub loop-at-preserved : goal.loop-at-preserved
 loop-at-preserved c = record {
   gains =
       front_goes Is (back c.args.net.now Uses c.args.rule) c.loop-at.at c.in-Some.literal
-      c.args.region.now c.loop-at.region c.put.new.self (sym c.body_once.ensures ∙ c.in-Some.is) c.loop-at.invariant.gains
-      (gains_one c.loop-at.region c.put.new.self c.in-Some.literal c.put.ensures.bound c.put.ensures.there c.put.ensures.new);
+      c.args.found.now c.loop-at.found c.put.new.self (sym c.body_once.ensures ∙ c.in-Some.is) c.loop-at.invariant.gains
+      (gains_one c.loop-at.found c.put.new.self c.in-Some.literal c.put.ensures.bound c.put.ensures.there c.in_ok-put-in-Some.ensures.new);
 }
 
 pub returns : goal.returns
 returns c =
-    front_ends Is (back c.args.net.now Uses c.args.rule) c.loop-at.at c.args.region.now c.loop-at.region
+    front_ends Is (back c.args.net.now Uses c.args.rule) c.loop-at.at c.args.found.now c.loop-at.found
     (omega arith) c.loop-at.invariant.gains
 
 pub returns-in-None : goal.returns-in-None
 returns-in-None c =
-    front_ends Is (back c.args.net.now Uses c.args.rule) c.loop-at.at c.args.region.now c.loop-at.region
+    front_ends Is (back c.args.net.now Uses c.args.rule) c.loop-at.at c.args.found.now c.loop-at.found
     (none_past (back c.args.net.now Uses c.args.rule) c.loop-at.at (sym c.body_once.ensures ∙ c.in-None.is))
     c.loop-at.invariant.gains

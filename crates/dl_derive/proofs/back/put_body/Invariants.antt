@@ -6,5 +6,5 @@ use Rattle.dl_derive.proofs.back.put_body.Given as goal
 
 abbrev pub invariant-loop-at : goal.invariant-loop-at
 invariant-loop-at l = record {
-  gains : Gains (InFront Is (back l.net Uses l.rule) l.at) l.fn.region l.region;
+  gains : Gains (InFront Is (back l.net Uses l.rule) l.at) l.fn.found l.found;
 }

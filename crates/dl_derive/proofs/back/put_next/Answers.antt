@@ -9,4 +9,4 @@ pub returns : goal.returns
 returns c =
     gains_then (FromRow Is (attackers_row c.args.net.now (literal_at c.args.net.now c.args.number)))
     (FromRow (λ r. FromRow Is (back c.args.net.now Uses r)) (heads c.args.net.now c.args.number)) (RestsAt c.args.net.now c.args.number)
-    c.args.region.now c.put_attackers.new.region c.put_rules.new.region (λ n x. inl x) (λ n y. inr y) (λ n z. z) c.put_attackers.ensures c.put_rules.ensures
+    c.args.found.now c.put_attackers.new.found c.put_rules.new.found (λ n x. inl x) (λ n y. inr y) (λ n z. z) c.in_ok-put_attackers.ensures c.in_ok-put_rules.ensures

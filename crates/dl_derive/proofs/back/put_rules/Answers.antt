@@ -8,7 +8,7 @@ use Rattle.dl_derive.proofs.Resting.{rule_inside, few_heads}
 use Rattle.dl_derive.proofs.back.put_rules.Goals as goal
 
 pub loop-at-init : goal.loop-at-init
-loop-at-init c = record { gains = front_starts (λ r. FromRow Is (back c.args.net.now Uses r)) (heads c.args.net.now c.args.number) c.args.region.now }
+loop-at-init c = record { gains = front_starts (λ r. FromRow Is (back c.args.net.now Uses r)) (heads c.args.net.now c.args.number) c.args.found.now }
 
 pub put_body-requires-clause-rule : goal.put_body-requires-clause-rule
 put_body-requires-clause-rule c =
@@ -23,17 +23,17 @@ pub loop-at-preserved : goal.loop-at-preserved
 loop-at-preserved c = record {
   gains =
       front_goes (λ r. FromRow Is (back c.args.net.now Uses r)) (heads c.args.net.now c.args.number) c.loop-at.at c.in-Some.rule
-      c.args.region.now c.loop-at.region c.put_body.new.region (sym c.heads.ensures ∙ c.in-Some.is) c.loop-at.invariant.gains
-      c.put_body.ensures;
+      c.args.found.now c.loop-at.found c.put_body.new.found (sym c.heads.ensures ∙ c.in-Some.is) c.loop-at.invariant.gains
+      c.in_ok-put_body-in-Some.ensures;
 }
 
 pub returns : goal.returns
 returns c =
-    front_ends (λ r. FromRow Is (back c.args.net.now Uses r)) (heads c.args.net.now c.args.number) c.loop-at.at c.args.region.now c.loop-at.region
+    front_ends (λ r. FromRow Is (back c.args.net.now Uses r)) (heads c.args.net.now c.args.number) c.loop-at.at c.args.found.now c.loop-at.found
     (omega (arith, few_heads c.args.net.now c.args.number)) c.loop-at.invariant.gains
 
 pub returns-in-None : goal.returns-in-None
 returns-in-None c =
-    front_ends (λ r. FromRow Is (back c.args.net.now Uses r)) (heads c.args.net.now c.args.number) c.loop-at.at c.args.region.now c.loop-at.region
+    front_ends (λ r. FromRow Is (back c.args.net.now Uses r)) (heads c.args.net.now c.args.number) c.loop-at.at c.args.found.now c.loop-at.found
     (none_past (heads c.args.net.now c.args.number) c.loop-at.at (sym c.heads.ensures ∙ c.in-None.is))
     c.loop-at.invariant.gains

@@ -6,5 +6,5 @@ use Rattle.dl_derive.proofs.back.put_rules.Given as goal
 
 abbrev pub invariant-loop-at : goal.invariant-loop-at
 invariant-loop-at l = record {
-  gains : Gains (InFront (λ r. FromRow Is (back l.net Uses r)) (heads l.net l.number) l.at) l.fn.region l.region;
+  gains : Gains (InFront (λ r. FromRow Is (back l.net Uses r)) (heads l.net l.number) l.at) l.fn.found l.found;
 }

@@ -3,7 +3,7 @@ use Rattle.std.specs.Prelude.{Contains}
 use Rattle.dl_lit.specs.declared.literal.Family.{Family}
 use Rattle.dl_lit.specs.declared.literal.Family.TheVariants.{Definite, Blocking}
 use Rattle.dl_theory.specs.Verdicts.{needs}
-use Rattle.dl_derive.proofs.answer.steps_to.Goals as goal
+use Rattle.dl_derive.proofs.whole.steps_to.Goals as goal
 
 pub definite_steps-requires-clause-right : goal.definite_steps-requires-clause-right
 definite_steps-requires-clause-right c =

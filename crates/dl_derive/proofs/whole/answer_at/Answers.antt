@@ -3,7 +3,7 @@ use Rattle.dl_fill.specs.Before.{before_of}
 use Rattle.dl_fill.proofs.Written.{exact_of_right}
 use Rattle.dl_derive.proofs.Answered.{marked_follows, unmarked_not}
 use Rattle.dl_derive.proofs.Gaps.{is_exact_gap}
-use Rattle.dl_derive.proofs.answer.answer_at.Goals as goal
+use Rattle.dl_derive.proofs.whole.answer_at.Goals as goal
 
 pub steps_to-requires-clause-follows : goal.steps_to-requires-clause-follows
 steps_to-requires-clause-follows c =
