@@ -3,7 +3,7 @@
 ghost use Rattle.std.specs.Prelude.{◌≡◌, ◌<◌};
 
 use crate::trials::drafts::{edition, saturated};
-use crate::trials::texts::{literal_of, tagged_of, theory_of};
+use crate::trials::texts::{AMBIGUOUS, PENGUIN, literal_of, tagged_of, theory_of};
 use dl_check::{CheckStop, Checker};
 use dl_lit::{Family, Literal, Tagged};
 use dl_marks::Steps;
@@ -12,11 +12,6 @@ use std::alloc::Global;
 use std::marker::Brand;
 use std::process::Abort;
 use std::sync::ledger::{Blank, Ledger};
-
-const PENGUIN: &str =
-    ">> penguin\nr1: penguin -> bird\nr2: bird => flies\nr3: penguin => -flies\nr3 > r2\n";
-
-const AMBIGUOUS: &str = "r1: => p\nr2: => -p\nr3: => q\nr4: p => -q\n";
 
 const LOOP: &str = "r: p => p\n";
 

@@ -2,7 +2,7 @@
 
 ghost use Rattle.std.specs.Prelude.{◌≡◌, ◌<◌};
 
-use crate::trials::texts::{edit_of, tagged_of, theory_of};
+use crate::trials::texts::{AMBIGUOUS, PENGUIN, edit_of, tagged_of, theory_of};
 use dl_edition::Held;
 use dl_io::{MemorySink, write_all};
 use dl_lit::{Family, Memory, Tag};
@@ -28,9 +28,6 @@ struct Stage {
     edits: &'static [&'static str],
     concluded: &'static [Concluded],
 }
-
-/// Rules for `p` and for `-p` that meet, one for `q`, and one from `p` for `-q`.
-const AMBIGUOUS: &str = "r1: => p\nr2: => -p\nr3: => q\nr4: p => -q\n";
 
 /// What follows from it, family by family.
 const AMBIGUOUS_MARKS: [Marked; 4] = [
@@ -125,9 +122,6 @@ const TEAM_STAGES: [Stage; 2] = [
         concluded: &[(Family::Blocking, "+d p\n-d -p\n")],
     },
 ];
-
-const PENGUIN: &str =
-    ">> penguin\nr1: penguin -> bird\nr2: bird => flies\nr3: penguin => -flies\nr3 > r2\n";
 
 const PENGUIN_CONCLUDED: [Concluded; 1] = [(
     Family::Blocking,

@@ -1,10 +1,17 @@
-//! What is read from text.
+//! Theories that several trials use, and what is read from text.
 
 use dl_lit::{Literal, Tagged};
 use dl_read::{read_edit, read_file, read_literal, read_tagged};
 use dl_theory::{Edit, Theory};
 use std::alloc::Global;
 use std::process::Abort;
+
+/// Penguins are birds that do not fly.
+pub(crate) const PENGUIN: &str =
+    ">> penguin\nr1: penguin -> bird\nr2: bird => flies\nr3: penguin => -flies\nr3 > r2\n";
+
+/// Rules for `p` and for `-p` that meet, one for `q`, and one from `p` for `-q`.
+pub(crate) const AMBIGUOUS: &str = "r1: => p\nr2: => -p\nr3: => q\nr4: p => -q\n";
 
 pub(crate) fn theory_of(rt: &impl Abort, alloc: Global, text: &str) -> Theory {
     match read_file(alloc, text.as_bytes()) {
