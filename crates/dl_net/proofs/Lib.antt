@@ -3,12 +3,14 @@ pub mod Keeping
 pub mod NumberLists
 pub mod PutLemmas
 pub mod OnceLemmas
+pub mod LineLemmas
 pub mod PlaceLemmas
 pub mod RuleLemmas
 pub mod LinkLemmas
 pub mod OrderLemmas
 pub mod TakeLemmas
 pub mod NameLemmas
+pub mod PairLemmas
 pub mod AboveLemmas
 pub mod JoinLemmas
 pub mod DropLemmas

@@ -5,16 +5,16 @@ use Rattle.std.proofs.lemmas.Bool.{cases_eq}
 use Rattle.std.proofs.lemmas.List.{get_or-map}
 use Rattle.std.proofs.lemmas.List.Elements.{All-push, All-contains, Contains-append_left, Contains-append_cases, Contains-push}
 use Rattle.dl_base.proofs.Members.{only}
-use Rattle.dl_net.specs.Tables.{Table, list_at}
+use Rattle.dl_net.specs.Tables.{RowLists, list_at}
 use Rattle.dl_net.specs.Lines.{list_of}
 use Rattle.dl_net.specs.Indexes.{place_in, by_place, HasLinks}
 
 -- a number at the end of one list of a table
-pub record Puts (t t' : Table) (n x : ℕ) : Type 0 where
+pub record Puts (t t' : RowLists) (n x : ℕ) : Type 0 where
   pub within : n < length t.lists
   pub lists : t'.lists ≡ set t.lists n (list_at t n ++ x ∷ [])
 
-module _ (t t' : Table) (n x : ℕ) (p : Puts t t' n x) where
+module _ (t t' : RowLists) (n x : ℕ) (p : Puts t t' n x) where
   pub put_here : list_at t' n ≡ list_at t n ++ x ∷ []
   put_here = ap (λ (ls : List (List ℕ)). get_or ls n []) p.lists ∙ get_or-set_same t.lists n (list_at t n ++ x ∷ []) [] p.within
 
@@ -58,7 +58,7 @@ module _ (t t' : Table) (n x : ℕ) (p : Puts t t' n x) where
   pub put_past : (len k : ℕ) → n < len → len ≤ k → list_at t k ≡ [] → list_at t' k ≡ []
   put_past len k lt past empty = put_other k (λ e. absurd (omega (arith, e, lt, past))) ∙ empty
 
-pub HasLinks-put : (len : ℕ) (order : List ℕ) (lowers uppers lowers' uppers' : Table) (u l : ℕ) → HasLinks len order lowers uppers
+pub HasLinks-put : (len : ℕ) (order : List ℕ) (lowers uppers lowers' uppers' : RowLists) (u l : ℕ) → HasLinks len order lowers uppers
     → All (λ s. s < len) order → Contains order u → Contains order l → Puts lowers lowers' u l → Puts uppers uppers' l u → HasLinks len order lowers' uppers'
 HasLinks-put len order lowers uppers lowers' uppers' u l h within mu ml pl pu =
     let lu : u < len = All-contains (λ s. s < len) order u within mu in
@@ -102,7 +102,7 @@ member_place order places u placed m =
     default (x ∷ xs) zero v lt e = e
     default (x ∷ xs) (suc k) v lt e = default xs k v (omega (arith, lt)) e
 
-pub by_place-put : (order places : List ℕ) (t t' : Table) (u l : ℕ) → ((k : ℕ) → k < length order → place_in places (get_or order k 0) ≡ k)
+pub by_place-put : (order places : List ℕ) (t t' : RowLists) (u l : ℕ) → ((k : ℕ) → k < length order → place_in places (get_or order k 0) ≡ k)
     → Contains order u → Puts t t' u l
     → by_place order places t' ≡ set (by_place order places t) (place_in places u) (list_of (by_place order places t) (place_in places u) ++ place_in places l ∷ [])
 by_place-put order places t t' u l placed mu p =

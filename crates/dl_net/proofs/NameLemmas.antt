@@ -3,19 +3,20 @@ use Rattle.std.proofs.Common.{◌≡◌, ◌≢◌, ◌⊎◌, ℕ, zero, suc, �
 use Rattle.std.specs.Prelude.{Contains, OnOk, OnErr, if◌then◌else◌}
 use Rattle.std.specs.Bool.{Decides}
 use Rattle.std.specs.List.{list_any}
-use Rattle.std.proofs.Math.Seq.{get_or-append_seam}
-use Rattle.std.proofs.lemmas.List.{get_or_default, append_assoc, append-nil, length-append}
+use Rattle.std.proofs.lemmas.List.{get_or_default, append_assoc, append-nil}
 use Rattle.std.proofs.lemmas.List.Sums.{position_or_len_is}
 use Rattle.std.proofs.lemmas.List.Quantifiers.{position-Some}
 use Rattle.std.proofs.lemmas.List.Elements.{All-nil, All-push, All-weaker, Contains-append_left, Contains-append_right, Contains-append_cases, All-append}
 use Rattle.std.proofs.lemmas.Map.Made.{is_member-Decides}
 use Rattle.dl_base.specs.Paths.{IsDistinct}
+use Rattle.dl_base.proofs.Distinct.{distinct_push}
 use Rattle.dl_base.proofs.Filters.{false_unless}
 use Rattle.dl_base.proofs.Members.{only}
 use Rattle.dl_lit.specs.declared.literal.Literal.{Literal}
 use Rattle.dl_lit.specs.Literal.{literal_eq, complement}
 use Rattle.dl_lit.specs.Names.{with_name, with_both}
 use Rattle.dl_lit.specs.Order.{literal_eq-Decides}
+use Rattle.dl_lit.proofs.NamesLemmas.{with_name-new}
 use Rattle.dl_net.specs.Above.{flip}
 use Rattle.dl_theory.specs.declared.rule.Rule.{Rule}
 use Rattle.dl_net.specs.Named.{IsPaired, IsNear, Grows, HasLiterals, number_in}
@@ -48,7 +49,7 @@ closed_at (x ∷ y ∷ ls) h q (suc (suc i)) lt e =
 pub paired_closed : (ls : List Literal) → IsPaired ls → (q : Literal) → Contains ls q → Contains ls (complement q)
 paired_closed ls h q m = closed_at ls h q m.0 m.1 m.2
 
-pub paired_push : (ls : List Literal) (q : Literal) → IsPaired ls → IsPaired ((ls ++ q ∷ []) ++ complement q ∷ [])
+pub paired_push : (ls : List Literal) (q : Literal) → IsPaired ls → IsPaired (ls ++ q ∷ complement q ∷ [])
 paired_push [] q h = (refl, tt)
 paired_push (x ∷ []) q h = absurd h
 paired_push (x ∷ y ∷ ls) q h = (h.0, paired_push ls q h.1)
@@ -124,65 +125,56 @@ name_cases : (ls : List Literal) (q : Literal)
     → (Contains ls q × (with_name ls q ≡ ls)) ⊎ ((¬ Contains ls q) × (with_name ls q ≡ ls ++ q ∷ []))
 name_cases ls q = choose ls q (list_any (literal_eq q) ls) (is_member-Decides literal_eq-Decides ls q)
 
--- a literal and its complement are there, or both are new
-pub both_cases : (ls : List Literal) (q : Literal) → IsPaired ls
-    → (with_both ls q ≡ ls) ⊎ (with_both ls q ≡ (ls ++ q ∷ []) ++ complement q ∷ [])
-both_cases ls q h =
+with_name-old : (ls : List Literal) (q : Literal) → Contains ls q → with_name ls q ≡ ls
+with_name-old ls q there =
     elim (name_cases ls q) [
-      | inl old ↦ elim (name_cases ls (complement q)) [
-        | inl there ↦ inl (ap (λ ks. with_name ks (complement q)) old.1 ∙ there.1)
-        | inr none ↦ absurd (none.0 (paired_closed ls h q old.0))
-      ]
-      | inr new ↦ elim (name_cases (ls ++ q ∷ []) (complement q)) [
-        | inl there ↦ elim (Contains-append_cases ls (q ∷ []) (complement q) there.0) [
-          | inl before ↦ absurd (new.0 (subst (Contains ls) (complement_twice q) (paired_closed ls h (complement q) before)))
-          | inr one ↦ absurd (complement_differs q (only q (complement q) one))
-        ]
-        | inr none ↦ inr (ap (λ ks. with_name ks (complement q)) new.1 ∙ none.1)
-      ]
+      | inl old ↦ old.1
+      | inr new ↦ absurd (new.0 there)
     ]
 
-pub both_paired : (ls : List Literal) (q : Literal) → IsPaired ls → IsPaired (with_both ls q)
-both_paired ls q h =
-    elim (both_cases ls q h) [
-      | inl e ↦ subst IsPaired (sym e) h
-      | inr e ↦ subst IsPaired (sym e) (paired_push ls q h)
+-- with a literal its complement is new
+complement_new : (ls : List Literal) (q : Literal) → IsPaired ls → ¬ Contains ls q → ¬ Contains (ls ++ q ∷ []) (complement q)
+complement_new ls q paired none there =
+    elim (Contains-append_cases ls (q ∷ []) (complement q) there) [
+      | inl before ↦ none (subst (Contains ls) (complement_twice q) (paired_closed ls paired (complement q) before))
+      | inr one ↦ complement_differs q (only q (complement q) one)
     ]
+
+-- names that have the literal stay as they are
+pub both_old : (ls : List Literal) (q : Literal) → IsPaired ls → Contains ls q → with_both ls q ≡ ls
+both_old ls q paired there =
+    ap (λ ks. with_name ks (complement q)) (with_name-old ls q there) ∙ with_name-old ls (complement q) (paired_closed ls paired q there)
+
+-- a new literal and its complement go last
+pub both_new : (ls : List Literal) (q : Literal) → IsPaired ls → ¬ Contains ls q → with_both ls q ≡ ls ++ q ∷ complement q ∷ []
+both_new ls q paired none =
+    ap (λ ks. with_name ks (complement q)) (with_name-new ls q none)
+    ∙ with_name-new (ls ++ q ∷ []) (complement q) (complement_new ls q paired none)
+    ∙ append_assoc ls (q ∷ []) (complement q ∷ [])
+
+pub both_distinct : (ls : List Literal) (q : Literal) → IsPaired ls → IsDistinct ls → ¬ Contains ls q → IsDistinct (ls ++ q ∷ complement q ∷ [])
+both_distinct ls q paired distinct none =
+    subst (λ (ks : List Literal). IsDistinct ks) (append_assoc ls (q ∷ []) (complement q ∷ []))
+    (distinct_push (ls ++ q ∷ []) (complement q) (distinct_push ls q distinct none) (complement_new ls q paired none))
 
 pub both_grows : (ls : List Literal) (q : Literal) → IsPaired ls → Grows (IsNear (q ∷ [])) ls (with_both ls q)
 both_grows ls q h =
-    elim (both_cases ls q h) [
-      | inl e ↦ subst (Grows (IsNear (q ∷ [])) ls) (sym e) (Grows-none (IsNear (q ∷ [])) ls)
-      | inr e ↦ record {
+    elim (name_cases ls q) [
+      | inl old ↦ subst (Grows (IsNear (q ∷ [])) ls) (sym (both_old ls q h old.0)) (Grows-none (IsNear (q ∷ [])) ls)
+      | inr new ↦ record {
         more = q ∷ complement q ∷ [];
-        is = e ∙ append_assoc ls (q ∷ []) (complement q ∷ []);
+        is = both_new ls q h new.0;
         only = All-push (IsNear (q ∷ [])) (q ∷ []) (complement q)
             (All-push (IsNear (q ∷ [])) [] q (All-nil (IsNear (q ∷ []))) (inl (0, omega arith, refl)))
             (inr (0, omega arith, sym (complement_twice q)));
       }
     ]
 
--- with both numbers, the literal is there
-pub both_has : (ls : List Literal) (q r : Literal) → IsPaired ls → Contains ls r → Contains (with_both ls q) r
-both_has ls q r h m = Grows-keeps (IsNear (q ∷ [])) ls (with_both ls q) r (both_grows ls q h) m
-
 -- what a call that adds both or neither leaves
-pub by_result : {E : Type 0} (r : Result (Unit {0}) E) (P : List Literal → Type 0) (old new with' : List Literal) → OnOk r (new ≡ with') → OnErr r (new ≡ old)
+pub by_result : {X : Type 0} {E : Type 0} (r : Result X E) (P : List Literal → Type 0) (old new with' : List Literal) → OnOk r (new ≡ with') → OnErr r (new ≡ old)
     → P with' → P old → P new
-by_result (Ok u) P old new with' ok err there kept = subst P (sym ok) there
+by_result (Ok x) P old new with' ok err there kept = subst P (sym ok) there
 by_result (Err e) P old new with' ok err there kept = subst P (sym err) kept
-
--- a literal that was not there gets the first number that was free
-pub number_fresh : (ls new : List Literal) (q : Literal) → IsPaired ls → ¬ Contains ls q → IsDistinct new → new ≡ with_both ls q → Contains new q
-    → number_in new q ≡ length ls
-number_fresh ls new q h none distinct is there =
-    elim (both_cases ls q h) [
-      | inl e ↦ absurd (none (subst (λ (ks : List Literal). Contains ks q) (is ∙ e) there))
-      | inr e ↦
-          let all : new ≡ ls ++ q ∷ complement q ∷ [] = is ∙ e ∙ append_assoc ls (q ∷ []) (complement q ∷ []) in
-          let here : get_or new (length ls) q ≡ q = ap (λ (ks : List Literal). get_or ks (length ls) q) all ∙ get_or-append_seam ls q (complement q ∷ []) q in
-          ap (number_in new) (sym here) ∙ number_at new (length ls) q distinct (omega (arith, ap length all, length-append ls (q ∷ complement q ∷ [])))
-    ]
 
 -- what holds whatever a call returns
 pub ok_from : {X : Type 0} {E : Type 0} (r : Result X E) (P : Type 0) → P → OnOk r P

@@ -1,10 +1,13 @@
 -- The order of the rules where none was dropped.
-use Rattle.std.proofs.Common.{◌≡◌, ℕ, zero, suc, ◌+◌, ◌-◌, ◌<◌, ◌≤◌, Option, List, length, get_or, sym, ap, ◌∙◌, arith}
+use Rattle.std.proofs.Common.{◌≡◌, ℕ, zero, suc, ◌+◌, ◌-◌, ◌<◌, ◌≤◌, List, length, get_or, sym, ap, ◌∙◌, arith}
 use Rattle.std.specs.Prelude.{All, Contains}
 use Rattle.std.proofs.lemmas.List.{get_or_default}
 use Rattle.std.proofs.lemmas.List.Elements.{All-get_or}
-use Rattle.dl_net.specs.declared.entry.Entry.{Entry}
-use Rattle.dl_net.specs.Tables.{Table}
+use Rattle.dl_net.specs.Tables.{RowLists}
+use Rattle.dl_net.specs.Lines.{Line, IndexLists, line_at}
+use Rattle.dl_net.specs.KeptIndex.{index_of}
+use Rattle.dl_net.specs.declared.index.Index.TheInside.{Inside}
+use Rattle.std.proofs.Math.ListN.{length-map}
 use Rattle.dl_net.specs.Indexes.{place_in, IsRising, IsStill, HasRules}
 
 -- a rising list rises by one at least from each number to the next
@@ -29,16 +32,20 @@ rising_still xs n up within e k lt =
       e,
     )
 
-module _ (entries : List (Option Entry)) (order places : List ℕ) (heads uses : Table) (h : HasRules entries order places heads uses) where
+module _ {lines : List Line} {order places : List ℕ} {heads uses : RowLists} (h : HasRules lines order places heads uses) where
   -- where there are as many places
-  pub order_still : (n : ℕ) → n ≡ length places → length order ≡ n → IsStill order
-  order_still n others e = rising_still order (length entries) h.rising h.within (e ∙ others ∙ h.as_long)
+  pub order_still : {n : ℕ} → n ≡ length places → length order ≡ n → IsStill order
+  order_still others e = rising_still order (length lines) h.rising h.within (e ∙ others ∙ h.as_long)
 
   -- where there are as many rules
-  pub places_still : (n : ℕ) → n ≡ length order → length places ≡ n → IsStill places
-  places_still n others e k lt =
+  pub places_still : {n : ℕ} → n ≡ length order → length places ≡ n → IsStill places
+  places_still others e k lt =
       let within : k < length order = omega (arith, e, others, lt) in
-      ap (place_in places) (sym (order_still n (sym e) (sym others) k within)) ∙ h.placed k within
+      ap (place_in places) (sym (order_still (sym e) (sym others) k within)) ∙ h.placed k within
+
+-- there are as many places in the order as an index tells rules
+pub order_length : (a : Inside) (v : IndexLists) → index_of a ≡ v → length a.order.items ≡ length v.lines
+order_length a v is = sym (length-map a.order.items (line_at a.lines.items)) ∙ ap (λ (w : IndexLists). length w.lines) is
 
 -- what was read from the list is there
 pub read_member : (order : List ℕ) (k x : ℕ) → x ≡ get_or order k 0 → k < length order → Contains order x

@@ -1,5 +1,5 @@
 -- Places of rules, from their inner numbers.
-use Rattle.std.proofs.Common.{◌≡◌, ℕ, suc, ◌+◌, ◌<◌, ◌≤◌, Bool, true, false, Option, List, [], ◌∷◌, ◌++◌, length, get_or, map, replicate, refl, sym, ap, subst, ◌∙◌, arith, cond, true≢false}
+use Rattle.std.proofs.Common.{◌≡◌, ℕ, suc, ◌+◌, ◌<◌, ◌≤◌, Bool, true, false, List, [], ◌∷◌, ◌++◌, length, get_or, map, replicate, refl, sym, ap, subst, ◌∙◌, arith, cond, true≢false}
 use Rattle.std.specs.Prelude.{All, Contains, filter, not, ◌==◌, ◌||◌, ◌&&◌}
 use Rattle.std.proofs.lemmas.List.Elements.{All-head, All-tail, All-weaker, All-contains, All-contains_itself, All-filter}
 use Rattle.std.proofs.lemmas.Bool.Decides.{Decides-eqb}
@@ -10,10 +10,9 @@ use Rattle.dl_theory.specs.Lists.{can_support}
 use Rattle.dl_net.proofs.LinkLemmas.{member_place}
 use Rattle.dl_net.specs.Counting.{times, each_once}
 use Rattle.dl_net.specs.Rows.{places_from, places}
-use Rattle.dl_net.specs.declared.entry.Entry.{Entry}
-use Rattle.dl_net.specs.Tables.{Table, list_at}
-use Rattle.dl_net.specs.Lines.{Line, no_line, is_in, passes, kind_row, heads_row, uses_row}
-use Rattle.dl_net.specs.Indexes.{line_at, place_in, HasRules}
+use Rattle.dl_net.specs.Tables.{RowLists, list_at}
+use Rattle.dl_net.specs.Lines.{Line, no_line, is_in, passes, kind_row, heads_row, uses_row, line_at}
+use Rattle.dl_net.specs.Indexes.{place_in, HasRules}
 
 abbrev pub one : Bool → ℕ
 one b = cond b 1 0
@@ -98,62 +97,62 @@ times_kind q y false = by (q == y)
     by true = refl
     by false = refl
 
-module _ (entries : List (Option Entry)) (order places' : List ℕ) (heads uses : Table) (h : HasRules entries order places' heads uses) where
-  pub heads_are : (n : ℕ) → map (place_in places') (list_at heads n) ≡ places heads_row (map (line_at entries) order) n
+module _ {lines : List Line} {order places' : List ℕ} {heads uses : RowLists} (h : HasRules lines order places' heads uses) where
+  pub heads_are : (n : ℕ) → map (place_in places') (list_at heads n) ≡ places heads_row (map (line_at lines) order) n
   heads_are n =
       ap (map (place_in places')) (h.by_head n)
-      ∙ places_are heads_row n (λ s. n == (line_at entries s).head) (line_at entries) (place_in places') order 0
-      (λ i lt. omega (arith, h.placed i lt)) (λ k d lt. times_single n (line_at entries (get_or order k d)).head)
+      ∙ places_are heads_row n (λ s. n == (line_at lines s).head) (line_at lines) (place_in places') order 0
+      (λ i lt. omega (arith, h.placed i lt)) (λ k d lt. times_single n (line_at lines (get_or order k d)).head)
 
   -- the rules with a head of which the kind passes
-  pub kinds_are : (strict : Bool) (n : ℕ) → length (filter (λ s. passes strict (line_at entries s).kind) (list_at heads n))
-      ≡ length (places (kind_row strict) (map (line_at entries) order) n)
+  pub kinds_are : (strict : Bool) (n : ℕ) → length (filter (λ s. passes strict (line_at lines s).kind) (list_at heads n))
+      ≡ length (places (kind_row strict) (map (line_at lines) order) n)
   kinds_are strict n =
-      sym (length-map (filter (λ s. passes strict (line_at entries s).kind) (list_at heads n)) (place_in places'))
-      ∙ ap length (ap (λ xs. map (place_in places') (filter (λ s. passes strict (line_at entries s).kind) xs)) (h.by_head n)
-      ∙ ap (map (place_in places')) (filter_both (λ s. passes strict (line_at entries s).kind) (λ s. n == (line_at entries s).head) order)
-      ∙ places_are (kind_row strict) n (λ s. (n == (line_at entries s).head) && passes strict (line_at entries s).kind) (line_at entries) (place_in places') order 0
+      sym (length-map (filter (λ s. passes strict (line_at lines s).kind) (list_at heads n)) (place_in places'))
+      ∙ ap length (ap (λ xs. map (place_in places') (filter (λ s. passes strict (line_at lines s).kind) xs)) (h.by_head n)
+      ∙ ap (map (place_in places')) (filter_both (λ s. passes strict (line_at lines s).kind) (λ s. n == (line_at lines s).head) order)
+      ∙ places_are (kind_row strict) n (λ s. (n == (line_at lines s).head) && passes strict (line_at lines s).kind) (line_at lines) (place_in places') order 0
       (λ i lt. omega (arith, h.placed i lt))
-      (λ k d lt. times_kind n (line_at entries (get_or order k d)).head (passes strict (line_at entries (get_or order k d)).kind)))
+      (λ k d lt. times_kind n (line_at lines (get_or order k d)).head (passes strict (line_at lines (get_or order k d)).kind)))
 
-  pub heads_few : (n : ℕ) → length (list_at heads n) ≤ length (map (line_at entries) order)
+  pub heads_few : (n : ℕ) → length (list_at heads n) ≤ length (map (line_at lines) order)
   heads_few n =
-      omega (arith, ap length (h.by_head n), length-filter_le (λ s. n == (line_at entries s).head) order, length-map order (line_at entries))
+      omega (arith, ap length (h.by_head n), length-filter_le (λ s. n == (line_at lines s).head) order, length-map order (line_at lines))
 
   -- the line at the place of a member
-  line_there : (s : ℕ) → Contains order s → get_or (map (line_at entries) order) (place_in places' s) no_line ≡ line_at entries s
+  line_there : (s : ℕ) → Contains order s → get_or (map (line_at lines) order) (place_in places' s) no_line ≡ line_at lines s
   line_there s m =
       let at = member_place order places' s h.placed m in
-      get_or-map (line_at entries) order (place_in places' s) 0 no_line at.0 ∙ ap (line_at entries) at.1
+      get_or-map (line_at lines) order (place_in places' s) 0 no_line at.0 ∙ ap (line_at lines) at.1
 
   pub supports_are : (xs : List ℕ) → All (Contains order) xs
-      → length (filter (λ s. passes false (line_at entries s).kind) xs)
-      ≡ length (filter (λ t. can_support (get_or (map (line_at entries) order) t no_line).kind) (map (place_in places') xs))
+      → length (filter (λ s. passes false (line_at lines s).kind) xs)
+      ≡ length (filter (λ t. can_support (get_or (map (line_at lines) order) t no_line).kind) (map (place_in places') xs))
   supports_are xs there =
-      sym (ap length (filter_mapped (place_in places') (λ t. can_support (get_or (map (line_at entries) order) t no_line).kind)
-      (λ s. passes false (line_at entries s).kind) xs
-      (All-weaker (Contains order) (λ s. can_support (get_or (map (line_at entries) order) (place_in places' s) no_line).kind ≡ passes false (line_at entries s).kind)
+      sym (ap length (filter_mapped (place_in places') (λ t. can_support (get_or (map (line_at lines) order) t no_line).kind)
+      (λ s. passes false (line_at lines s).kind) xs
+      (All-weaker (Contains order) (λ s. can_support (get_or (map (line_at lines) order) (place_in places' s) no_line).kind ≡ passes false (line_at lines s).kind)
       (λ s m. ap (λ (l : Line). can_support l.kind) (line_there s m)) xs there))
-      ∙ length-map (filter (λ s. passes false (line_at entries s).kind) xs) (place_in places'))
+      ∙ length-map (filter (λ s. passes false (line_at lines s).kind) xs) (place_in places'))
 
-  pub uses_are : (n : ℕ) → map (place_in places') (list_at uses n) ≡ places uses_row (map (line_at entries) order) n
+  pub uses_are : (n : ℕ) → map (place_in places') (list_at uses n) ≡ places uses_row (map (line_at lines) order) n
   uses_are n =
       ap (map (place_in places')) (h.by_use n)
-      ∙ places_are uses_row n (λ s. is_in (line_at entries s).body n) (line_at entries) (place_in places') order 0
-      (λ i lt. omega (arith, h.placed i lt)) (λ k d lt. times_once (line_at entries (get_or order k d)).body n)
+      ∙ places_are uses_row n (λ s. is_in (line_at lines s).body n) (line_at lines) (place_in places') order 0
+      (λ i lt. omega (arith, h.placed i lt)) (λ k d lt. times_once (line_at lines (get_or order k d)).body n)
 
   -- what stands among the rules has a place
   pub have_places : (xs : List ℕ) → All (Contains order) xs → All (λ s. s < length places') xs
   have_places xs there =
       All-weaker (Contains order) (λ s. s < length places')
-      (λ s m. let less : s < length entries = All-contains (λ t. t < length entries) order s h.within m in omega (arith, less, h.as_long)) xs there
+      (λ s m. let less : s < length lines = All-contains (λ t. t < length lines) order s h.within m in omega (arith, less, h.as_long)) xs there
 
   pub heads_there : (n : ℕ) → All (Contains order) (list_at heads n)
   heads_there n =
       subst (λ (xs : List ℕ). All (Contains order) xs) (sym (h.by_head n))
-      (All-filter (λ s. n == (line_at entries s).head) (Contains order) order (All-contains_itself order))
+      (All-filter (λ s. n == (line_at lines s).head) (Contains order) order (All-contains_itself order))
 
   pub uses_there : (n : ℕ) → All (Contains order) (list_at uses n)
   uses_there n =
       subst (λ (xs : List ℕ). All (Contains order) xs) (sym (h.by_use n))
-      (All-filter (λ s. is_in (line_at entries s).body n) (Contains order) order (All-contains_itself order))
+      (All-filter (λ s. is_in (line_at lines s).body n) (Contains order) order (All-contains_itself order))

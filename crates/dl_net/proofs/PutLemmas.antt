@@ -5,7 +5,7 @@ use Rattle.std.proofs.lemmas.Bool.{cases_eq, cases_lt}
 use Rattle.std.proofs.lemmas.Bool.Decides.{Decides-eqb}
 use Rattle.std.proofs.lemmas.List.{get_or_at, get_or_past, append-nil}
 use Rattle.std.proofs.lemmas.List.Elements.{All-get_or}
-use Rattle.dl_net.specs.Tables.{Table, list_at, spare_at, ends_with}
+use Rattle.dl_net.specs.Tables.{RowLists, list_at, spare_at, ends_with}
 use Rattle.dl_net.specs.Lines.{is_in}
 use Rattle.dl_net.proofs.NumberLists.{is_in-push_same, is_in-push_other, alike}
 
@@ -23,7 +23,7 @@ ends_with-below xs r below e =
       | inr ge ↦ let past : get_or xs (length xs - 1) (r + 1) ≡ r + 1 = get_or_past xs (length xs - 1) (r + 1) ge in omega arith
     ]
 
-module _ (old now : Table) (done : List ℕ) (b rule : ℕ) (so : (n : ℕ) → list_at now n ≡ list_at old n ++ cond (is_in done n) (rule ∷ []) []) where
+module _ (old now : RowLists) (done : List ℕ) (b rule : ℕ) (so : (n : ℕ) → list_at now n ≡ list_at old n ++ cond (is_in done n) (rule ∷ []) []) where
   new_by : (v : Bool) → is_in done b ≡ v → ends_with (list_at now b) rule ≡ false → v ≡ false
   new_by true e no_end =
       let here : list_at now b ≡ list_at old b ++ rule ∷ [] = so b ∙ ap (λ w. list_at old b ++ cond w (rule ∷ []) []) e in
@@ -52,7 +52,7 @@ module _ (old now : Table) (done : List ℕ) (b rule : ℕ) (so : (n : ℕ) → 
         | inr d ↦ sym (is_in-push_other done b n d)
       ])
 
-  pub pushed : (new : Table) → ends_with (list_at now b) rule ≡ false → b < length now.lists → new.lists ≡ set now.lists b (list_at now b ++ rule ∷ [])
+  pub pushed : (new : RowLists) → ends_with (list_at now b) rule ≡ false → b < length now.lists → new.lists ≡ set now.lists b (list_at now b ++ rule ∷ [])
       → (n : ℕ) → list_at new n ≡ list_at old n ++ cond (is_in (done ++ b ∷ []) n) (rule ∷ []) []
   pushed new no_end within put n =
       elim (cases_eq n b) [
@@ -65,7 +65,7 @@ module _ (old now : Table) (done : List ℕ) (b rule : ℕ) (so : (n : ℕ) → 
       ]
 
 -- room that is not used up stays
-pub room_kept : (old now new : Table) (done : List ℕ) (b : ℕ) → ((n : ℕ) → is_in done n ≡ false → spare_at now n ≡ spare_at old n)
+pub room_kept : (old now new : RowLists) (done : List ℕ) (b : ℕ) → ((n : ℕ) → is_in done n ≡ false → spare_at now n ≡ spare_at old n)
     → ((n : ℕ) → n ≢ b → spare_at new n ≡ spare_at now n) → (n : ℕ) → is_in (done ++ b ∷ []) n ≡ false → spare_at new n ≡ spare_at old n
 room_kept old now new done b so put n e =
     elim (cases_eq n b) [
@@ -73,6 +73,6 @@ room_kept old now new done b so put n e =
       | inr d ↦ put n d ∙ so n (sym (is_in-push_other done b n d) ∙ e)
     ]
 
-pub room_same : (old now : Table) (done : List ℕ) (b : ℕ) → ((n : ℕ) → is_in done n ≡ false → spare_at now n ≡ spare_at old n)
+pub room_same : (old now : RowLists) (done : List ℕ) (b : ℕ) → ((n : ℕ) → is_in done n ≡ false → spare_at now n ≡ spare_at old n)
     → (n : ℕ) → is_in (done ++ b ∷ []) n ≡ false → spare_at now n ≡ spare_at old n
 room_same old now done b so n e = room_kept old now now done b so (λ k d. refl) n e

@@ -1,5 +1,5 @@
 -- One more rule by number.
-use Rattle.std.proofs.Common.{◌≡◌, ℕ, ◌<◌, ◌≤◌, Bool, Option, None, Some, List, [], ◌∷◌, ◌++◌, length, get_or, set, map, refl, sym, ap, ◌∙◌, subst, arith, inl, inr, cond, length-append, get_or-set_same, get_or-set_other}
+use Rattle.std.proofs.Common.{◌≡◌, ℕ, ◌<◌, ◌≤◌, Bool, List, [], ◌∷◌, ◌++◌, length, get_or, set, map, refl, sym, ap, ◌∙◌, subst, arith, inl, inr, cond, length-append, get_or-set_same, get_or-set_other}
 use Rattle.std.specs.Prelude.{All, Contains, filter, ◌==◌}
 use Rattle.std.proofs.Math.ListN.{length-set}
 use Rattle.std.proofs.lemmas.Bool.{cases_eq, cases_lt}
@@ -7,112 +7,96 @@ use Rattle.std.proofs.lemmas.List.{get_or_append_left, get_or_at, map-append, ap
 use Rattle.std.proofs.lemmas.List.Elements.{All-push, All-get_or, All-weaker, All-contains, All-contains_itself, filter-append}
 use Rattle.std.proofs.lemmas.List.Quantifiers.{all_pairs_push}
 use Rattle.dl_base.proofs.Members.{map_agree}
-use Rattle.dl_net.specs.declared.entry.Entry.{Entry}
-use Rattle.dl_net.specs.Tables.{Table, list_at, KeepsLists}
-use Rattle.dl_net.specs.Lines.{Line, is_in, line_of, entry_at, IsFit, IsKeptEntry}
-use Rattle.dl_net.specs.Indexes.{line_at, place_in, by_place, HasRules, HasLinks}
+use Rattle.dl_net.specs.Tables.{RowLists, list_at, KeepsLists}
+use Rattle.dl_net.specs.Lines.{Line, no_line, is_in, line_at}
+use Rattle.dl_net.specs.Indexes.{place_in, by_place, HasRules, HasLinks}
 use Rattle.dl_net.proofs.NumberLists.{filter_agree_on, alike, differ}
 
 -- a fact that each member of a list has because it is a member
 pub All-by_member : {X : Type 0} (P : X → Type 0) (xs : List X) → ((x : X) → Contains xs x → P x) → All P xs
 All-by_member P xs h = All-weaker (Contains xs) P h xs (All-contains_itself xs)
 
-pub entry_wider : (w v : ℕ) (o : Option Entry) → w ≤ v → IsKeptEntry w o → IsKeptEntry v o
-entry_wider w v None up h = h
-entry_wider w v (Some e) up h =
-    record {
-      within = (omega (arith, h.within.0, up), All-weaker (λ b. b < w) (λ b. b < v) (λ k lt. omega (arith, lt, up)) e.body.items h.within.1);
-      once = h.once;
-      short = h.short;
-    }
+module _ (lines : List Line) (l : Line) where
+  pub line_kept : (s : ℕ) → s < length lines → line_at (lines ++ l ∷ []) s ≡ line_at lines s
+  line_kept s h = get_or_append_left lines (l ∷ []) no_line s h
 
-module _ (entries : List (Option Entry)) (e : Entry) where
-  pub entry_kept : (s : ℕ) → s < length entries → entry_at (entries ++ Some e ∷ []) s ≡ entry_at entries s
-  entry_kept s h = get_or_append_left entries (Some e ∷ []) None s h
-
-  pub entry_new : entry_at (entries ++ Some e ∷ []) (length entries) ≡ Some e
-  entry_new = get_or_at entries (Some e) [] None (length entries) refl
+  pub line_new : line_at (lines ++ l ∷ []) (length lines) ≡ l
+  line_new = get_or_at lines l [] no_line (length lines) refl
 
   -- an index of the rules after one more
-  pub index_push : (test : Line → Bool) (order : List ℕ) → All (λ s. s < length entries) order
-      → filter (λ s. test (line_at (entries ++ Some e ∷ []) s)) (order ++ length entries ∷ [])
-      ≡ filter (λ s. test (line_at entries s)) order ++ cond (test (line_of (Some e))) (length entries ∷ []) []
+  pub index_push : (test : Line → Bool) (order : List ℕ) → All (λ s. s < length lines) order
+      → filter (λ s. test (line_at (lines ++ l ∷ []) s)) (order ++ length lines ∷ [])
+      ≡ filter (λ s. test (line_at lines s)) order ++ cond (test l) (length lines ∷ []) []
   index_push test order within =
-      filter-append (λ s. test (line_at (entries ++ Some e ∷ []) s)) order (length entries ∷ [])
-      ∙ ap (λ xs. xs ++ filter (λ s. test (line_at (entries ++ Some e ∷ []) s)) (length entries ∷ []))
-      (filter_agree_on (λ s. test (line_at (entries ++ Some e ∷ []) s)) (λ s. test (line_at entries s)) order
-      (All-weaker (λ s. s < length entries) (λ s. test (line_at (entries ++ Some e ∷ []) s) ≡ test (line_at entries s))
-      (λ s h. ap (λ o. test (line_of o)) (entry_kept s h)) order within))
-      ∙ ap (λ b. filter (λ s. test (line_at entries s)) order ++ cond b (length entries ∷ []) []) (ap (λ o. test (line_of o)) entry_new)
+      filter-append (λ s. test (line_at (lines ++ l ∷ []) s)) order (length lines ∷ [])
+      ∙ ap (λ xs. xs ++ filter (λ s. test (line_at (lines ++ l ∷ []) s)) (length lines ∷ []))
+      (filter_agree_on (λ s. test (line_at (lines ++ l ∷ []) s)) (λ s. test (line_at lines s)) order
+      (All-weaker (λ s. s < length lines) (λ s. test (line_at (lines ++ l ∷ []) s) ≡ test (line_at lines s))
+      (λ s h. ap test (line_kept s h)) order within))
+      ∙ ap (λ b. filter (λ s. test (line_at lines s)) order ++ cond b (length lines ∷ []) []) (ap test line_new)
 
-  pub placed_add : (order places : List ℕ) (k : ℕ) → ((j : ℕ) → j < length order → place_in places (get_or order j 0) ≡ j) → All (λ s. s < length entries) order
-      → length places ≡ length entries → k < length (order ++ length entries ∷ [])
-      → place_in (places ++ length order ∷ []) (get_or (order ++ length entries ∷ []) k 0) ≡ k
+  pub placed_add : (order places : List ℕ) (k : ℕ) → ((j : ℕ) → j < length order → place_in places (get_or order j 0) ≡ j) → All (λ s. s < length lines) order
+      → length places ≡ length lines → k < length (order ++ length lines ∷ [])
+      → place_in (places ++ length order ∷ []) (get_or (order ++ length lines ∷ []) k 0) ≡ k
   placed_add order places k placed within same lt =
       elim (cases_lt k (length order)) [
         | inl old ↦
-            let less : get_or order k 0 < length entries = All-get_or (λ s. s < length entries) order k 0 old within in
-            ap (place_in (places ++ length order ∷ [])) (get_or_append_left order (length entries ∷ []) 0 k old)
+            let less : get_or order k 0 < length lines = All-get_or (λ s. s < length lines) order k 0 old within in
+            ap (place_in (places ++ length order ∷ [])) (get_or_append_left order (length lines ∷ []) 0 k old)
             ∙ get_or_append_left places (length order ∷ []) 0 (get_or order k 0) (omega (arith, less, same)) ∙ placed k old
         | inr new ↦
-            let at : k ≡ length order = omega (arith, length-append order (length entries ∷ [])) in
-            ap (place_in (places ++ length order ∷ [])) (get_or_at order (length entries) [] 0 k (sym at))
-            ∙ get_or_at places (length order) [] 0 (length entries) same ∙ sym at
+            let at : k ≡ length order = omega (arith, length-append order (length lines ∷ [])) in
+            ap (place_in (places ++ length order ∷ [])) (get_or_at order (length lines) [] 0 k (sym at))
+            ∙ get_or_at places (length order) [] 0 (length lines) same ∙ sym at
       ]
 
-  pub HasRules-add : (order places : List ℕ) (heads uses heads' uses' : Table) → HasRules entries order places heads uses
-      → IsFit (length heads.lists) e
-      → heads'.lists ≡ set heads.lists e.head (list_at heads e.head ++ length entries ∷ [])
-      → ((n : ℕ) → list_at uses' n ≡ list_at uses n ++ cond (is_in e.body.items n) (length entries ∷ []) []) → length uses'.lists ≡ length uses.lists
-      → HasRules (entries ++ Some e ∷ []) (order ++ length entries ∷ []) (places ++ length order ∷ []) heads' uses'
-  HasRules-add order places heads uses heads' uses' h fit by_h by_u wide =
+  pub HasRules-add : (order places : List ℕ) (heads uses heads' uses' : RowLists) → HasRules lines order places heads uses
+      → l.head < length heads.lists
+      → heads'.lists ≡ set heads.lists l.head (list_at heads l.head ++ length lines ∷ [])
+      → ((n : ℕ) → list_at uses' n ≡ list_at uses n ++ cond (is_in l.body n) (length lines ∷ []) []) → length uses'.lists ≡ length uses.lists
+      → HasRules (lines ++ l ∷ []) (order ++ length lines ∷ []) (places ++ length order ∷ []) heads' uses'
+  HasRules-add order places heads uses heads' uses' h within by_h by_u wide =
       let same : length heads'.lists ≡ length heads.lists =
-      ap length by_h ∙ length-set heads.lists e.head (list_at heads e.head ++ length entries ∷ []) in
+      ap length by_h ∙ length-set heads.lists l.head (list_at heads l.head ++ length lines ∷ []) in
       record {
-        within = All-push (λ s. s < length (entries ++ Some e ∷ [])) order (length entries)
-            (All-weaker (λ s. s < length entries) (λ s. s < length (entries ++ Some e ∷ [])) (λ s lt. omega (arith, length-append entries (Some e ∷ []), lt)) order h.within)
-            (omega (arith, length-append entries (Some e ∷ [])));
-        fewer = omega (arith, length-append entries (Some e ∷ []), length-append order (length entries ∷ []), h.fewer);
-        rising = all_pairs_push (λ a b. a < b) order (length entries) h.rising h.within;
+        within = All-push (λ s. s < length (lines ++ l ∷ [])) order (length lines)
+            (All-weaker (λ s. s < length lines) (λ s. s < length (lines ++ l ∷ [])) (λ s lt. omega (arith, length-append lines (l ∷ []), lt)) order h.within)
+            (omega (arith, length-append lines (l ∷ [])));
+        fewer = omega (arith, length-append lines (l ∷ []), length-append order (length lines ∷ []), h.fewer);
+        rising = all_pairs_push (λ a b. a < b) order (length lines) h.rising h.within;
         placed = λ k lt. placed_add order places k h.placed h.within h.as_long lt;
-        as_long = omega (arith, length-append entries (Some e ∷ []), length-append places (length order ∷ []), h.as_long);
-        kept = subst (λ (w : ℕ). All (λ s. IsKeptEntry w (entry_at (entries ++ Some e ∷ []) s)) (order ++ length entries ∷ [])) (sym same)
-            (All-push (λ s. IsKeptEntry (length heads.lists) (entry_at (entries ++ Some e ∷ []) s)) order (length entries)
-            (All-by_member (λ s. IsKeptEntry (length heads.lists) (entry_at (entries ++ Some e ∷ []) s)) order (λ s there.
-            subst (λ (o : Option Entry). IsKeptEntry (length heads.lists) o) (sym (entry_kept s (All-contains (λ t. t < length entries) order s h.within there)))
-            (All-contains (λ t. IsKeptEntry (length heads.lists) (entry_at entries t)) order s h.kept there)))
-            (subst (λ (o : Option Entry). IsKeptEntry (length heads.lists) o) (sym entry_new) fit));
+        as_long = omega (arith, length-append lines (l ∷ []), length-append places (length order ∷ []), h.as_long);
         by_head = λ n.
-            elim (cases_eq n e.head) [
-              | inl here ↦ ap (λ k. list_at heads' k) here ∙ ap (λ (ls : List (List ℕ)). get_or ls e.head []) by_h
-                  ∙ get_or-set_same heads.lists e.head (list_at heads e.head ++ length entries ∷ []) [] fit.within.0
-                  ∙ ap (λ k. list_at heads k ++ length entries ∷ []) (sym here)
-                  ∙ ap (λ b. list_at heads n ++ cond b (length entries ∷ []) []) (sym (alike n e.head here))
-                  ∙ ap (λ xs. xs ++ cond (n == e.head) (length entries ∷ []) []) (h.by_head n)
+            elim (cases_eq n l.head) [
+              | inl here ↦ ap (λ k. list_at heads' k) here ∙ ap (λ (ls : List (List ℕ)). get_or ls l.head []) by_h
+                  ∙ get_or-set_same heads.lists l.head (list_at heads l.head ++ length lines ∷ []) [] within
+                  ∙ ap (λ k. list_at heads k ++ length lines ∷ []) (sym here)
+                  ∙ ap (λ b. list_at heads n ++ cond b (length lines ∷ []) []) (sym (alike n l.head here))
+                  ∙ ap (λ xs. xs ++ cond (n == l.head) (length lines ∷ []) []) (h.by_head n)
                   ∙ sym (index_push (λ l. n == l.head) order h.within)
-              | inr other ↦ ap (λ (ls : List (List ℕ)). get_or ls n []) by_h ∙ get_or-set_other heads.lists e.head n (list_at heads e.head ++ length entries ∷ []) [] other
+              | inr other ↦ ap (λ (ls : List (List ℕ)). get_or ls n []) by_h ∙ get_or-set_other heads.lists l.head n (list_at heads l.head ++ length lines ∷ []) [] other
                   ∙ sym (append-nil (list_at heads n))
-                  ∙ ap (λ b. list_at heads n ++ cond b (length entries ∷ []) []) (sym (differ n e.head other))
-                  ∙ ap (λ xs. xs ++ cond (n == e.head) (length entries ∷ []) []) (h.by_head n)
+                  ∙ ap (λ b. list_at heads n ++ cond b (length lines ∷ []) []) (sym (differ n l.head other))
+                  ∙ ap (λ xs. xs ++ cond (n == l.head) (length lines ∷ []) []) (h.by_head n)
                   ∙ sym (index_push (λ l. n == l.head) order h.within)
             ];
         by_use = λ n.
-            by_u n ∙ ap (λ xs. xs ++ cond (is_in e.body.items n) (length entries ∷ []) []) (h.by_use n)
+            by_u n ∙ ap (λ xs. xs ++ cond (is_in l.body n) (length lines ∷ []) []) (h.by_use n)
             ∙ sym (index_push (λ l. is_in l.body n) order h.within);
         as_wide = omega (arith, same, wide, h.as_wide);
       }
 
-  pub lines-add : (order : List ℕ) → All (λ s. s < length entries) order
-      → map (line_at (entries ++ Some e ∷ [])) (order ++ length entries ∷ []) ≡ map (line_at entries) order ++ line_of (Some e) ∷ []
+  pub lines-add : (order : List ℕ) → All (λ s. s < length lines) order
+      → map (line_at (lines ++ l ∷ [])) (order ++ length lines ∷ []) ≡ map (line_at lines) order ++ l ∷ []
   lines-add order within =
-      map-append (line_at (entries ++ Some e ∷ [])) order (length entries ∷ [])
-      ∙ ap (λ ls. ls ++ line_at (entries ++ Some e ∷ []) (length entries) ∷ [])
-      (map_agree (line_at (entries ++ Some e ∷ [])) (line_at entries) order
-      (All-weaker (λ s. s < length entries) (λ s. line_at (entries ++ Some e ∷ []) s ≡ line_at entries s) (λ s h. ap line_of (entry_kept s h)) order within))
-      ∙ ap (λ o. map (line_at entries) order ++ line_of o ∷ []) entry_new
+      map-append (line_at (lines ++ l ∷ [])) order (length lines ∷ [])
+      ∙ ap (λ ls. ls ++ line_at (lines ++ l ∷ []) (length lines) ∷ [])
+      (map_agree (line_at (lines ++ l ∷ [])) (line_at lines) order
+      (All-weaker (λ s. s < length lines) (λ s. line_at (lines ++ l ∷ []) s ≡ line_at lines s) (λ s h. line_kept s h) order within))
+      ∙ ap (λ d. map (line_at lines) order ++ d ∷ []) line_new
 
 -- links stay where tables only get wider and rules only join
-module _ (len len' : ℕ) (order order' : List ℕ) (lowers uppers lowers' uppers' : Table) (kl : KeepsLists lowers lowers') (ku : KeepsLists uppers uppers') where
+module _ (len len' : ℕ) (order order' : List ℕ) (lowers uppers lowers' uppers' : RowLists) (kl : KeepsLists lowers lowers') (ku : KeepsLists uppers uppers') where
   all_there : (xs ys : List ℕ) → ys ≡ xs → ((s : ℕ) → Contains order s → Contains order' s) → All (Contains order) xs → All (Contains order') ys
   all_there xs ys e more h =
       subst (λ (zs : List ℕ). All (Contains order') zs) (sym e) (All-weaker (Contains order) (Contains order') more xs h)
@@ -128,28 +112,26 @@ module _ (len len' : ℕ) (order order' : List ℕ) (lowers uppers lowers' upper
   }
 
 -- tables that hold the same stand for the same rules
-pub HasRules-kept : (entries : List (Option Entry)) (order places : List ℕ) (heads uses heads' uses' : Table) → HasRules entries order places heads uses
-    → KeepsLists heads heads' → KeepsLists uses uses' → length heads'.lists ≤ length uses'.lists → HasRules entries order places heads' uses'
-HasRules-kept entries order places heads uses heads' uses' h kh ku wide = record {
+pub HasRules-kept : {lines : List Line} {order places : List ℕ} {heads uses heads' uses' : RowLists} → HasRules lines order places heads uses
+    → KeepsLists heads heads' → KeepsLists uses uses' → length heads'.lists ≤ length uses'.lists → HasRules lines order places heads' uses'
+HasRules-kept h kh ku wide = record {
   within = h.within;
   fewer = h.fewer;
   rising = h.rising;
   placed = h.placed;
   as_long = h.as_long;
-  kept = All-weaker (λ s. IsKeptEntry (length heads.lists) (entry_at entries s)) (λ s. IsKeptEntry (length heads'.lists) (entry_at entries s))
-      (λ s. entry_wider (length heads.lists) (length heads'.lists) (entry_at entries s) kh.wide) order h.kept;
   by_head = λ n. kh.lists n ∙ h.by_head n;
   by_use = λ n. ku.lists n ∙ h.by_use n;
   as_wide = wide;
 }
 
-pub by_place-kept : (order places : List ℕ) (t t' : Table) → KeepsLists t t' → by_place order places t' ≡ by_place order places t
+pub by_place-kept : (order places : List ℕ) (t t' : RowLists) → KeepsLists t t' → by_place order places t' ≡ by_place order places t
 by_place-kept order places t t' keeps =
     map_agree (λ s. map (place_in places) (list_at t' s)) (λ s. map (place_in places) (list_at t s)) order
     (λ k d lt. ap (map (place_in places)) (keeps.lists (get_or order k d)))
 
 -- the lists at the rules, by place, after one more rule
-pub by_place-add : (len : ℕ) (order places : List ℕ) (t t' : Table) → KeepsLists t t' → All (λ s. s < len) order → length places ≡ len
+pub by_place-add : (len : ℕ) (order places : List ℕ) (t t' : RowLists) → KeepsLists t t' → All (λ s. s < len) order → length places ≡ len
     → ((s : ℕ) → All (Contains order) (list_at t s)) → list_at t len ≡ []
     → by_place (order ++ len ∷ []) (places ++ length order ∷ []) t' ≡ by_place order places t ++ [] ∷ []
 by_place-add len order places t t' keeps within same there past =

@@ -1,7 +1,7 @@
 -- One list of a table changes.
 use Rattle.std.specs.Prelude.{cond, ◌==◌}
-use Rattle.dl_net.specs.Row.{NumberList}
-use Rattle.dl_net.specs.Tables.{Table, list_at, KeepsLists}
+use Rattle.dl_net.specs.Listed.{Listed}
+use Rattle.dl_net.specs.Tables.{RowLists, list_at, KeepsLists}
 use Rattle.dl_net.proofs.NumberLists.{alike, differ}
 use Rattle.std.proofs.Common.{◌≡◌, ◌≢◌, ℕ, ◌<◌, ◌≤◌, List, [], length, get_or, set, map, sym, ap, ◌∙◌, subst, arith, inl, inr, get_or-set_same, get_or-set_other}
 use Rattle.std.proofs.Math.ListN.{length-map}
@@ -40,7 +40,7 @@ spare_within xs i h =
     elim (cases_lt i (length xs)) [ inl lt ↦ lt | inr ge ↦ let none : get_or xs i 0 ≡ 0 = get_or_past xs i 0 ge in absurd (omega (arith, none, h)) ]
 
 -- a list of which only the room grows
-pub kept_lists : (xs : List NumberList) (i : ℕ) (old new : NumberList) → i < length xs → old ≡ get_or xs i old → new.items ≡ old.items
+pub kept_lists : (xs : List (Listed ℕ)) (i : ℕ) (old new : Listed ℕ) → i < length xs → old ≡ get_or xs i old → new.items ≡ old.items
     → old.spare ≤ new.spare
     → KeepsLists (record { lists = map (λ v. v.items) xs; spare = map (λ v. v.spare) xs })
     (record { lists = map (λ v. v.items) (set xs i new); spare = map (λ v. v.spare) (set xs i new) })
@@ -52,7 +52,7 @@ kept_lists xs i old new within read same up = record {
 
 -- ---- a list that becomes another, by number
 
-pub written_at : (f : List ℕ → List ℕ) (t t' : Table) (h : ℕ) → h < length t.lists → t'.lists ≡ set t.lists h (f (list_at t h)) → (n : ℕ)
+pub written_at : (f : List ℕ → List ℕ) (t t' : RowLists) (h : ℕ) → h < length t.lists → t'.lists ≡ set t.lists h (f (list_at t h)) → (n : ℕ)
     → list_at t' n ≡ cond (n == h) (f (list_at t n)) (list_at t n)
 written_at f t t' h within put n =
     elim (cases_eq n h) [
@@ -63,7 +63,7 @@ written_at f t t' h within put n =
     ]
 
 -- past the end each list is empty, and stays so
-pub idle_at : (f : List ℕ → List ℕ) → f [] ≡ [] → (t : Table) (h : ℕ) → length t.lists ≤ h → (n : ℕ)
+pub idle_at : (f : List ℕ → List ℕ) → f [] ≡ [] → (t : RowLists) (h : ℕ) → length t.lists ≤ h → (n : ℕ)
     → list_at t n ≡ cond (n == h) (f (list_at t n)) (list_at t n)
 idle_at f none t h past n =
     elim (cases_eq n h) [

@@ -1,5 +1,5 @@
 -- A rule that goes from an index.
-use Rattle.std.proofs.Common.{◌≡◌, ◌≢◌, ℕ, ◌+◌, ◌-◌, ◌<◌, ◌≤◌, ◌==◌, ◌&&◌, Bool, true, false, not, cond, Option, None, List, [], ◌∷◌, ◌++◌, length, get_or, set, map, refl, sym, ap, subst, ◌∙◌, arith, inl, inr, true≢false, get_or-set_same, get_or-set_other}
+use Rattle.std.proofs.Common.{◌≡◌, ◌≢◌, ℕ, ◌+◌, ◌-◌, ◌<◌, ◌≤◌, ◌==◌, ◌&&◌, Bool, true, false, not, cond, List, [], ◌∷◌, ◌++◌, length, get_or, set, map, refl, sym, ap, subst, ◌∙◌, arith, inl, inr, true≢false, get_or-set_same, get_or-set_other}
 use Rattle.std.specs.Prelude.{All, Contains, filter, remove}
 use Rattle.std.proofs.Math.ListN.{length-set}
 use Rattle.std.proofs.lemmas.Bool.{cases_eq, cases_lt, lt-ltb, le-ltb}
@@ -14,10 +14,9 @@ use Rattle.std.proofs.lemmas.Map.Made.{is_member-Decides}
 use Rattle.dl_base.specs.Paths.{IsDistinct}
 use Rattle.dl_base.proofs.Filters.{filter_all, filter_mapped, map-remove, Contains-kept, remove_is_filter}
 use Rattle.dl_base.proofs.Members.{map_agree, Contains-filtered}
-use Rattle.dl_net.specs.declared.entry.Entry.{Entry}
-use Rattle.dl_net.specs.Tables.{Table, list_at, drop_item}
-use Rattle.dl_net.specs.Lines.{Line, is_in, line_of, entry_at, IsKeptEntry, list_of, place_without, list_without}
-use Rattle.dl_net.specs.Indexes.{line_at, place_in, by_place, HasRules, HasLinks}
+use Rattle.dl_net.specs.Tables.{RowLists, list_at, drop_item}
+use Rattle.dl_net.specs.Lines.{Line, no_line, is_in, line_at, list_of, place_without, list_without}
+use Rattle.dl_net.specs.Indexes.{place_in, by_place, HasRules, HasLinks}
 use Rattle.dl_net.proofs.NumberLists.{filter_agree_on, alike, differ, is_in-push_same, is_in-push_other, is_in-filter, and_true}
 use Rattle.dl_net.proofs.LinkLemmas.{member_place, map_changed}
 use Rattle.dl_net.proofs.PlaceLemmas.{filter_both}
@@ -68,11 +67,11 @@ module _ (x : ℕ) where
   drop_where xs false h = sym (drop_idle xs (λ m. true≢false (sym (h m))))
 
 -- a number that goes from one list of a table
-abbrev pub Drops : Table → Table → ℕ → ℕ → Type 0
+abbrev pub Drops : RowLists → RowLists → ℕ → ℕ → Type 0
 Drops t t' n x = (s : ℕ) → list_at t' s ≡ cond (s == n) (drop_item x (list_at t s)) (list_at t s)
 
 -- a number goes from one list more
-pub taken : (x : ℕ) (old now new : Table) (done : List ℕ) (b : ℕ) → ((n : ℕ) → list_at now n ≡ cond (is_in done n) (drop_item x (list_at old n)) (list_at old n))
+pub taken : (x : ℕ) (old now new : RowLists) (done : List ℕ) (b : ℕ) → ((n : ℕ) → list_at now n ≡ cond (is_in done n) (drop_item x (list_at old n)) (list_at old n))
     → Drops now new b x → (n : ℕ) → list_at new n ≡ cond (is_in (done ++ b ∷ []) n) (drop_item x (list_at old n)) (list_at old n)
 taken x old now new done b so put n =
     elim (cases_eq n b) [
@@ -89,7 +88,7 @@ taken x old now new done b so put n =
 
 -- ---- the places that are left
 
-module _ (order places : List ℕ) (k x : ℕ) (placed : (j : ℕ) → j < length order → place_in places (get_or order j 0) ≡ j) (lt : k < length order)
+module _ (order places : List ℕ) {k x : ℕ} (placed : (j : ℕ) → j < length order → place_in places (get_or order j 0) ≡ j) (lt : k < length order)
     (is : get_or order k 0 ≡ x) where
   pub order_distinct : IsDistinct order
   order_distinct i j d before within same =
@@ -158,7 +157,7 @@ module _ (order places : List ℕ) (k x : ℕ) (placed : (j : ℕ) → j < lengt
         (Decides-like (u == x) (λ e. ap (place_in places) e ∙ gone_at) (at_gone u m) (Decides-eqb u x)))) us there)))
 
     -- the lists at the rules that are left, by place
-    pub moved_lists : (t t' : Table) → ((s : ℕ) → All (Contains order) (list_at t s)) → ((s : ℕ) → s ≢ x → list_at t' s ≡ drop_item x (list_at t s))
+    pub moved_lists : (t t' : RowLists) → ((s : ℕ) → All (Contains order) (list_at t s)) → ((s : ℕ) → s ≢ x → list_at t' s ≡ drop_item x (list_at t s))
         → by_place (remove order k) places' t' ≡ map (list_without k) (remove (by_place order places t) k)
     moved_lists t t' there are =
         map_agree (λ s. map (place_in places') (list_at t' s)) (λ s. list_without k (map (place_in places) (list_at t s))) (remove order k)
@@ -169,67 +168,63 @@ module _ (order places : List ℕ) (k x : ℕ) (placed : (j : ℕ) → j < lengt
 
 -- ---- the tables without the rule
 
-module _ (entries : List (Option Entry)) (order places : List ℕ) (heads uses : Table) (h : HasRules entries order places heads uses) (k x : ℕ) (lt : k < length order)
+module _ {lines : List Line} {order places : List ℕ} {heads uses : RowLists} (h : HasRules lines order places heads uses) {k x : ℕ} (lt : k < length order)
     (is : get_or order k 0 ≡ x) where
-  entry_left : (s : ℕ) → s ≢ x → entry_at (set entries (x) None) s ≡ entry_at entries s
-  entry_left s other = get_or-set_other entries (x) s None None other
+  line_left : (s : ℕ) → s ≢ x → line_at (set lines x no_line) s ≡ line_at lines s
+  line_left s other = get_or-set_other lines x s no_line no_line other
 
   -- a part of the rules that are left
-  part_left : (test : Line → Bool) (b : Bool) → test (line_at entries x) ≡ b
-      → cond b (drop_item x (filter (λ s. test (line_at entries s)) order)) (filter (λ s. test (line_at entries s)) order)
-      ≡ filter (λ s. test (line_at (set entries x None) s)) (remove order k)
+  part_left : (test : Line → Bool) (b : Bool) → test (line_at lines x) ≡ b
+      → cond b (drop_item x (filter (λ s. test (line_at lines s)) order)) (filter (λ s. test (line_at lines s)) order)
+      ≡ filter (λ s. test (line_at (set lines x no_line) s)) (remove order k)
   part_left test b e =
-      drop_part x (λ s. test (line_at entries s)) order b e
-      ∙ ap (filter (λ s. test (line_at entries s))) (sym (order_left order places k x h.placed lt is))
-      ∙ filter_agree_on (λ s. test (line_at entries s)) (λ s. test (line_at (set entries x None) s)) (remove order k)
-      (All-by_member (λ s. test (line_at entries s) ≡ test (line_at (set entries x None) s)) (remove order k)
-      (λ s m. ap (λ o. test (line_of o)) (sym (entry_left s (left_other order places k x h.placed lt is s m)))))
+      drop_part x (λ s. test (line_at lines s)) order b e
+      ∙ ap (filter (λ s. test (line_at lines s))) (sym (order_left order places h.placed lt is))
+      ∙ filter_agree_on (λ s. test (line_at lines s)) (λ s. test (line_at (set lines x no_line) s)) (remove order k)
+      (All-by_member (λ s. test (line_at lines s) ≡ test (line_at (set lines x no_line) s)) (remove order k)
+      (λ s m. ap test (sym (line_left s (left_other order places h.placed lt is s m)))))
 
-  pub lines_left : map (line_at (set entries x None)) (remove order k) ≡ remove (map (line_at entries) order) k
+  pub lines_left : map (line_at (set lines x no_line)) (remove order k) ≡ remove (map (line_at lines) order) k
   lines_left =
-      map_agree (line_at (set entries x None)) (line_at entries) (remove order k)
-      (All-by_member (λ s. line_at (set entries x None) s ≡ line_at entries s) (remove order k)
-      (λ s m. ap line_of (entry_left s (left_other order places k x h.placed lt is s m))))
-      ∙ map-remove (line_at entries) order k
+      map_agree (line_at (set lines x no_line)) (line_at lines) (remove order k)
+      (All-by_member (λ s. line_at (set lines x no_line) s ≡ line_at lines s) (remove order k)
+      (λ s m. line_left s (left_other order places h.placed lt is s m)))
+      ∙ map-remove (line_at lines) order k
 
-  pub HasRules-take : (places' : List ℕ) (heads' uses' : Table)
+  pub HasRules-take : {places' : List ℕ} {heads' uses' : RowLists}
       → ((j : ℕ) → j < length (remove order k) → place_in places' (get_or (remove order k) j 0) ≡ j) → length places' ≡ length places
-      → ((n : ℕ) → list_at heads' n ≡ cond (n == (line_at entries x).head) (drop_item x (list_at heads n)) (list_at heads n))
+      → ((n : ℕ) → list_at heads' n ≡ cond (n == (line_at lines x).head) (drop_item x (list_at heads n)) (list_at heads n))
       → length heads'.lists ≡ length heads.lists
-      → ((n : ℕ) → list_at uses' n ≡ cond (is_in (line_at entries x).body n) (drop_item x (list_at uses n)) (list_at uses n))
+      → ((n : ℕ) → list_at uses' n ≡ cond (is_in (line_at lines x).body n) (drop_item x (list_at uses n)) (list_at uses n))
       → length uses'.lists ≡ length uses.lists
-      → HasRules (set entries x None) (remove order k) places' heads' uses'
-  HasRules-take places' heads' uses' placed' long heads_are heads_long uses_are uses_long =
+      → HasRules (set lines x no_line) (remove order k) places' heads' uses'
+  HasRules-take placed' long heads_are heads_long uses_are uses_long =
       record {
-        within = All-by_member (λ s. s < length (set entries x None)) (remove order k)
-            (λ s m. let less : s < length entries = All-contains (λ t. t < length entries) order s h.within (left_member order places k x h.placed lt is s m) in
-            omega (arith, less, length-set entries x None));
-        fewer = omega (arith, h.fewer, left_length order places k x h.placed lt is, length-set entries x None);
+        within = All-by_member (λ s. s < length (set lines x no_line)) (remove order k)
+            (λ s m. let less : s < length lines = All-contains (λ t. t < length lines) order s h.within (left_member order places h.placed lt is s m) in
+            omega (arith, less, length-set lines x no_line));
+        fewer = omega (arith, h.fewer, left_length order places h.placed lt is, length-set lines x no_line);
         rising = all_pairs_remove (λ a b. a < b) order k lt h.rising;
         placed = placed';
-        as_long = omega (arith, long, h.as_long, length-set entries x None);
-        kept = All-by_member (λ s. IsKeptEntry (length heads'.lists) (entry_at (set entries x None) s)) (remove order k)
-            (λ s m. subst (λ (o : Option Entry). IsKeptEntry (length heads'.lists) o) (sym (entry_left s (left_other order places k x h.placed lt is s m)))
-            (subst (λ w. IsKeptEntry w (entry_at entries s)) (sym heads_long)
-            (All-contains (λ t. IsKeptEntry (length heads.lists) (entry_at entries t)) order s h.kept (left_member order places k x h.placed lt is s m))));
+        as_long = omega (arith, long, h.as_long, length-set lines x no_line);
         by_head = λ n. heads_are n
-            ∙ ap (λ (xs : List ℕ). cond (n == (line_at entries x).head) (drop_item x xs) xs) (h.by_head n)
-            ∙ part_left (λ l. n == l.head) (n == (line_at entries x).head) refl;
+            ∙ ap (λ (xs : List ℕ). cond (n == (line_at lines x).head) (drop_item x xs) xs) (h.by_head n)
+            ∙ part_left (λ l. n == l.head) (n == (line_at lines x).head) refl;
         by_use = λ n. uses_are n
-            ∙ ap (λ (xs : List ℕ). cond (is_in (line_at entries x).body n) (drop_item x xs) xs) (h.by_use n)
-            ∙ part_left (λ l. is_in l.body n) (is_in (line_at entries x).body n) refl;
+            ∙ ap (λ (xs : List ℕ). cond (is_in (line_at lines x).body n) (drop_item x xs) xs) (h.by_use n)
+            ∙ part_left (λ l. is_in l.body n) (is_in (line_at lines x).body n) refl;
         as_wide = omega (arith, heads_long, uses_long, h.as_wide);
       }
 
 -- ---- what stands below and above the rule
 
-module _ (len : ℕ) (order places : List ℕ) (lowers uppers lowers' uppers' : Table) (h : HasLinks len order lowers uppers) (k x : ℕ)
+module _ (len : ℕ) (order places : List ℕ) (lowers uppers lowers' uppers' : RowLists) (h : HasLinks len order lowers uppers) (k x : ℕ)
     (placed : (j : ℕ) → j < length order → place_in places (get_or order j 0) ≡ j) (lt : k < length order) (is : get_or order k 0 ≡ x) (within : x < len)
     (lower_none : list_at lowers' x ≡ []) (upper_none : list_at uppers' x ≡ [])
     (lower_left : (s : ℕ) → s ≢ x → list_at lowers' s ≡ drop_item x (list_at lowers s))
     (upper_left : (s : ℕ) → s ≢ x → list_at uppers' s ≡ drop_item x (list_at uppers s)) where
   -- of what a list has after, and what it had
-  there_left : (t t' : Table) → list_at t' x ≡ [] → ((s : ℕ) → s ≢ x → list_at t' s ≡ drop_item x (list_at t s))
+  there_left : (t t' : RowLists) → list_at t' x ≡ [] → ((s : ℕ) → s ≢ x → list_at t' s ≡ drop_item x (list_at t s))
       → ((s : ℕ) → All (Contains order) (list_at t s)) → (s : ℕ) → All (Contains (remove order k)) (list_at t' s)
   there_left t t' none are there s =
       elim (cases_eq s x) [
@@ -237,12 +232,12 @@ module _ (len : ℕ) (order places : List ℕ) (lowers uppers lowers' uppers' : 
         | inr d ↦
             subst (λ (xs : List ℕ). All (Contains (remove order k)) xs) (sym (are s d))
             (All-by_member (Contains (remove order k)) (drop_item x (list_at t s))
-            (λ u m. left_kept order places k x placed lt is u
+            (λ u m. left_kept order places placed lt is u
             (All-contains (Contains order) (list_at t s) u (there s) (dropped_from x (list_at t s) u m))
             (dropped_other x (list_at t s) u m)))
       ]
 
-  turned_left : (t t' v v' : Table) → list_at t' x ≡ []
+  turned_left : (t t' v v' : RowLists) → list_at t' x ≡ []
       → ((s : ℕ) → s ≢ x → list_at t' s ≡ drop_item x (list_at t s))
       → ((s : ℕ) → s ≢ x → list_at v' s ≡ drop_item x (list_at v s))
       → (s u : ℕ) → (Contains (list_at t s) u → Contains (list_at v u) s) → Contains (list_at t' s) u → Contains (list_at v' u) s
@@ -257,7 +252,7 @@ module _ (len : ℕ) (order places : List ℕ) (lowers uppers lowers' uppers' : 
             (dropped_kept x (list_at v u) s (turn (dropped_from x (list_at t s) u there)) d)
       ]
 
-  past_left : (t t' : Table) → ((s : ℕ) → s ≢ x → list_at t' s ≡ drop_item x (list_at t s))
+  past_left : (t t' : RowLists) → ((s : ℕ) → s ≢ x → list_at t' s ≡ drop_item x (list_at t s))
       → (s : ℕ) → len ≤ s → list_at t s ≡ [] → list_at t' s ≡ []
   past_left t t' are s past none =
       are s (λ e. absurd (omega (arith, e, within, past))) ∙ ap (drop_item x) none
@@ -273,7 +268,7 @@ module _ (len : ℕ) (order places : List ℕ) (lowers uppers lowers' uppers' : 
   }
 
 -- rows out of which x was taken where it stood
-pub rows_taken : (x : ℕ) (t v t' : Table) → ((s u : ℕ) → Contains (list_at t s) u → Contains (list_at v u) s)
+pub rows_taken : (x : ℕ) (t v t' : RowLists) → ((s u : ℕ) → Contains (list_at t s) u → Contains (list_at v u) s)
     → ((s : ℕ) → list_at t' s ≡ cond (s == x) [] (cond (is_in (list_at v x) s) (drop_item x (list_at t s)) (list_at t s)))
     → (list_at t' x ≡ []) × ((s : ℕ) → s ≢ x → list_at t' s ≡ drop_item x (list_at t s))
 rows_taken x t v t' turn are = (
@@ -285,7 +280,7 @@ rows_taken x t v t' turn are = (
 
 -- ---- a rule that no longer stands below another
 
-module _ (t t' : Table) (n x : ℕ) (d : Drops t t' n x) where
+module _ (t t' : RowLists) (n x : ℕ) (d : Drops t t' n x) where
   drops_here : list_at t' n ≡ drop_item x (list_at t n)
   drops_here = d n ∙ ap (λ b. cond b (drop_item x (list_at t n)) (list_at t n)) (alike n n refl)
 
@@ -323,7 +318,7 @@ module _ (t t' : Table) (n x : ℕ) (d : Drops t t' n x) where
         | inr apart ↦ drops_other s apart ∙ none
       ]
 
-pub HasLinks-drop : (len : ℕ) (order : List ℕ) (lowers uppers lowers' uppers' : Table) (u l : ℕ) → HasLinks len order lowers uppers
+pub HasLinks-drop : (len : ℕ) (order : List ℕ) (lowers uppers lowers' uppers' : RowLists) (u l : ℕ) → HasLinks len order lowers uppers
     → Drops lowers lowers' u l → Drops uppers uppers' l u → HasLinks len order lowers' uppers'
 HasLinks-drop len order lowers uppers lowers' uppers' u l h dl du = record {
   lower_there = λ s. drops_all lowers lowers' u l dl (Contains order) s (h.lower_there s);
@@ -338,7 +333,7 @@ HasLinks-drop len order lowers uppers lowers' uppers' u l h dl du = record {
   upper_past = λ s past. drops_past uppers uppers' l u du s (h.upper_past s past);
 }
 
-pub by_place-drop : (order places : List ℕ) (t t' : Table) (k j u l : ℕ) → ((i : ℕ) → i < length order → place_in places (get_or order i 0) ≡ i)
+pub by_place-drop : (order places : List ℕ) (t t' : RowLists) (k j u l : ℕ) → ((i : ℕ) → i < length order → place_in places (get_or order i 0) ≡ i)
     → k < length order → j < length order → get_or order k 0 ≡ u → get_or order j 0 ≡ l → All (Contains order) (list_at t u) → Drops t t' u l
     → by_place order places t' ≡ set (by_place order places t) k (drop_item j (list_of (by_place order places t) k))
 by_place-drop order places t t' k j u l placed ltk ltj isu isl there d =
@@ -358,7 +353,7 @@ by_place-drop order places t t' k j u l placed ltk ltj isu isl there d =
 -- ---- the steps of a rule that goes
 
 -- a list that is emptied at last
-pub cleared : (x : ℕ) (t t' : Table) (F : ℕ → List ℕ) → ((s : ℕ) → list_at t' s ≡ cond (s == x) [] (list_at t s)) → ((s : ℕ) → s ≢ x → list_at t s ≡ F s)
+pub cleared : (x : ℕ) (t t' : RowLists) (F : ℕ → List ℕ) → ((s : ℕ) → list_at t' s ≡ cond (s == x) [] (list_at t s)) → ((s : ℕ) → s ≢ x → list_at t s ≡ F s)
     → (s : ℕ) → list_at t' s ≡ cond (s == x) [] (F s)
 cleared x t t' F put are s =
     elim (cases_eq s x) [

@@ -1,44 +1,43 @@
 -- How the fields of an index hold its rules.
 use Rattle.std.specs.Prelude.{ℕ, ◌<◌, ◌^◌, Option, None, Some, List, length, map, All, Contains}
 use Rattle.dl_net.specs.declared.index.Index.TheInside.{Inside}
-use Rattle.dl_net.specs.declared.entry.Entry.{Entry}
 use Rattle.dl_net.specs.declared.entry.Between.{Between}
 use Rattle.dl_net.specs.declared.entry.Room.{Room}
 use Rattle.dl_net.specs.declared.entry.Room.TheVariants.{Nothing, ForRule, ForLink}
 use Rattle.dl_net.specs.Tables.{spare_at}
-use Rattle.dl_net.specs.Lines.{Line, Meeting, IndexLists, line_of, IsFit}
-use Rattle.dl_net.specs.Indexes.{line_at, place_in, HasRules, HasLinks, by_place}
+use Rattle.dl_net.specs.Lines.{Line, Meeting, IndexLists, line_at, IsWithin}
+use Rattle.dl_net.specs.Indexes.{place_in, HasRules, HasLinks, by_place}
 
 abbrev pub ready_of : Room → Option Line
 ready_of Nothing = None
-ready_of (ForRule e) = Some (line_of (Some e))
+ready_of (ForRule l) = Some l
 ready_of (ForLink l) = None
 
 abbrev pub linking_of : List ℕ → Room → Option Meeting
 linking_of places Nothing = None
-linking_of places (ForRule e) = None
+linking_of places (ForRule l) = None
 linking_of places (ForLink l) = Some (record { upper = place_in places l.upper; lower = place_in places l.lower })
 
 abbrev pub index_of : Inside → IndexLists
 index_of a = record {
-  lines = map (line_at a.entries.items) a.order.items;
+  lines = map (line_at a.lines.items) a.order.items;
   lowers = by_place a.order.items a.places.items a.lowers;
   uppers = by_place a.order.items a.places.items a.uppers;
   width = length a.heads.lists;
-  numbers = length a.entries.items;
+  numbers = length a.lines.items;
   ready = ready_of a.room;
   linking = linking_of a.places.items a.room;
 }
 
 -- room for one more rule
-pub record HasRuleRoom (a : Inside) (e : Entry) : Type 0 where
-  pub fit : IsFit (length a.heads.lists) e
-  pub few : length a.entries.items < 2 ^ 32
-  pub entries_room : 0 < a.entries.spare
+pub record HasRuleRoom (a : Inside) (l : Line) : Type 0 where
+  pub within : IsWithin (length a.heads.lists) l
+  pub few : length a.lines.items < 2 ^ 32
+  pub lines_room : 0 < a.lines.spare
   pub order_room : 0 < a.order.spare
   pub places_room : 0 < a.places.spare
-  pub heads_room : 0 < spare_at a.heads e.head
-  pub uses_room : All (λ b. 0 < spare_at a.uses b) e.body.items
+  pub heads_room : 0 < spare_at a.heads l.head
+  pub uses_room : All (λ b. 0 < spare_at a.uses b) l.body
 
 -- room for one more rule below another
 pub record HasLinkRoom (a : Inside) (l : Between) : Type 0 where
@@ -51,10 +50,10 @@ pub record HasLinkRoom (a : Inside) (l : Between) : Type 0 where
 
 abbrev pub HasRoom : Inside → Room → Type 0
 HasRoom a Nothing = Unit {0}
-HasRoom a (ForRule e) = HasRuleRoom a e
+HasRoom a (ForRule l) = HasRuleRoom a l
 HasRoom a (ForLink l) = HasLinkRoom a l
 
 pub record IsKeptIndex (a : Inside) : Type 0 where
-  pub rules : HasRules a.entries.items a.order.items a.places.items a.heads a.uses
-  pub links : HasLinks (length a.entries.items) a.order.items a.lowers a.uppers
+  pub rules : HasRules a.lines.items a.order.items a.places.items a.heads a.uses
+  pub links : HasLinks (length a.lines.items) a.order.items a.lowers a.uppers
   pub room : HasRoom a a.room

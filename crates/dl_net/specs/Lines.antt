@@ -1,12 +1,11 @@
 -- Rules by number, and the lists that lead to them.
-use Rattle.std.specs.Prelude.{◌≡◌, ℕ, ◌-◌, ◌<◌, ◌≤◌, ◌^◌, ◌==◌, nat_lt, Bool, not, cond, Option, None, Some, List, [], ◌∷◌, length, All, get_or, map, filter}
+use Rattle.std.specs.Prelude.{◌≡◌, ℕ, ◌-◌, ◌<◌, ◌≤◌, ◌==◌, nat_lt, Bool, not, cond, Option, None, Some, List, [], ◌∷◌, All, get_or, map, filter}
 use Rattle.std.specs.List.{list_any}
 use Rattle.dl_theory.specs.declared.rule.Kind.{Kind}
 use Rattle.dl_theory.specs.declared.rule.Kind.TheVariants.{Defeater}
 use Rattle.dl_theory.specs.Lists.{is_strict, can_support}
 use Rattle.dl_net.specs.Counting.{each_once}
-use Rattle.dl_net.specs.Row.{NumberList}
-use Rattle.dl_net.specs.declared.entry.Entry.{Entry}
+use Rattle.dl_net.specs.Listed.{Listed}
 
 -- a rule by the numbers of its literals
 pub record Line : Type 0 where
@@ -78,29 +77,10 @@ list_without k xs = map (place_without k) (filter (λ i. not (i == k)) xs)
 
 -- ---- by inner number
 
-abbrev pub line_of : Option Entry → Line
-line_of None = no_line
-line_of (Some e) = record { kind = e.kind; head = e.head; body = e.body.items }
+abbrev pub line_at : List Line → ℕ → Line
+line_at lines s = get_or lines s no_line
 
 -- the list that is there, or else the other
-abbrev pub once_or : Option NumberList → List ℕ → List ℕ
+abbrev pub once_or : Option (Listed ℕ) → List ℕ → List ℕ
 once_or None body = body
 once_or (Some once) body = once.items
-
-abbrev pub entry_at : List (Option Entry) → ℕ → Option Entry
-entry_at entries s = get_or entries s None
-
--- the numbers of an entry's body, each where it first stands
-abbrev pub once_list : Entry → List ℕ
-once_list e = once_or e.once e.body.items
-
--- an entry with numbers below the width, which tells those of its short body each once
-pub record IsFit (width : ℕ) (e : Entry) : Type 0 where
-  pub within : IsWithin width (line_of (Some e))
-  pub once : once_list e ≡ each_once e.body.items
-  pub short : length e.body.items < 2 ^ 26
-
--- the entry of a rule that is there
-abbrev pub IsKeptEntry : ℕ → Option Entry → Type 0
-IsKeptEntry width None = ⊥
-IsKeptEntry width (Some e) = IsFit width e

@@ -1,10 +1,6 @@
 -- A list of numbers.
-use Rattle.std.specs.Prelude.{ℕ, List, []}
+use Rattle.std.specs.Prelude.{ℕ, []}
+use Rattle.dl_net.specs.Listed.{Listed}
 
--- the numbers, and how many more the list takes without memory
-pub record NumberList : Type 0 where
-  pub items : List ℕ
-  pub spare : ℕ
-
-abbrev pub no_row : NumberList
+abbrev pub no_row : Listed ℕ
 no_row = record { items = []; spare = 3 }

@@ -2,11 +2,9 @@
 
 ghost use Rattle.std.specs.Prelude.{◌≡◌, ◌<◌, ◌≤◌, All, length, filter};
 ghost use Rattle.dl_theory.specs.Lists.{can_support};
-ghost use Rattle.dl_net.specs.Lines.{passes, line_of};
-ghost use Rattle.dl_net.specs.Indexes.{line_at};
+ghost use Rattle.dl_net.specs.Lines.{passes, line_at};
 
-use crate::entry::Entry;
-use crate::table::Table;
+use crate::lines::Lines;
 use dl_theory::Kind;
 
 /// Whether a rule of this kind supports its head.
@@ -31,24 +29,15 @@ pub(crate) fn passes(kind: Kind, strict: bool) -> bool
     }
 }
 
-fn kind_of(entry: &Option<Entry>) -> Kind
-    ensures { result ≡ (line_of entry.now).kind }
-{
-    match entry {
-        None => Kind::Defeater,
-        Some(entry) => entry.kind,
-    }
-}
-
 /// How many of the rules are strict, or else can support their heads.
-pub(crate) fn count(entries: &Table<Option<Entry>>, rules: &[u32], strict: bool) -> usize
-    requires { All (λ s. s < length entries.now.items) rules.now }
-    ensures value { result ≡ length (filter (λ s. passes strict (line_at entries.now.items s).kind) rules.now) }
+pub(crate) fn count(lines: &Lines, rules: &[u32], strict: bool) -> usize
+    requires { All (λ s. s < length lines.now.items) rules.now }
+    ensures value { result ≡ length (filter (λ s. passes strict (line_at lines.now.items s).kind) rules.now) }
     ensures few { result ≤ length rules.now }
 {
     let mut count = 0;
     for rule in rules {
-        if passes(kind_of(entries.at(*rule as usize)), strict) {
+        if passes(lines.kind(*rule as usize), strict) {
             count += 1;
         }
     }

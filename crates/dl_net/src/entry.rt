@@ -1,32 +1,23 @@
-//! Rules by number.
+//! What there is memory for.
 
-ghost use Rattle.std.specs.Prelude.{◌≡◌};
-ghost use Rattle.dl_net.specs.Lines.{once_list};
-
-use crate::row::Row;
+use crate::body::BodyNumbers;
 use dl_theory::Kind;
+use std::marker::Model;
 
-/// A rule whose literals are numbers.
+/// A rule whose literals are numbers, by itself.
 #[derive(Drop)]
 pub(crate) struct Entry {
     pub kind: Kind,
     pub head: u32,
-    /// The numbers of the body in its order, with repeats.
-    pub body: Row,
-    /// The numbers of the body, each where it first stands; `None` where none stands twice.
-    pub once: Option<Row>,
+    pub body: BodyNumbers,
 }
 
-impl Entry {
-    /// The numbers of the body, each where it first stands.
-    pub fn each_once(&self) -> &[u32]
-        ensures { result.now ≡ once_list self.now }
-    {
-        match &self.once {
-            None => self.body.as_slice(),
-            Some(once) => once.as_slice(),
-        }
-    }
+impl Model for Entry {
+    ghost use Rattle.dl_net.specs.Lines.{Line};
+
+    ghost Value = { Line };
+
+    ghost view = { λ e. record { kind = e.kind; head = e.head; body = e.body } };
 }
 
 /// Two rules by inner number, one above the other.

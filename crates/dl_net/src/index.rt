@@ -9,11 +9,12 @@ ghost use Rattle.dl_theory.specs.Lists.{is_strict, can_support};
 ghost use Rattle.dl_net.specs.Counting.{each_once};
 ghost use Rattle.dl_net.specs.Rows.{places, row};
 ghost use Rattle.dl_net.specs.Tables.{list_at, drop_item};
-ghost use Rattle.dl_net.specs.Lines.{KeepsRules, no_index, no_line, list_of, line_of, once_list, entry_at, heads_row, uses_row, kind_row, IsWithin, list_without};
+ghost use Rattle.dl_net.specs.Lines.{KeepsRules, no_index, no_line, list_of, heads_row, uses_row, kind_row, IsWithin, list_without};
 ghost use Rattle.dl_net.specs.Indexes.{place_in, IsStill};
 
 use crate::counts::{can_support, count, passes};
 use crate::entry::{Between, Entry, Room};
+use crate::lines::Lines;
 use crate::put::{put_rule, reserve_at, reserve_rule, widen};
 use crate::rows::RowTable;
 use crate::table::Table;
@@ -26,7 +27,7 @@ use std::mem;
 
 #[derive(Drop)]
 pub(crate) struct Index {
-    entries: Table<Option<Entry>>,
+    lines: Lines,
     order: Table<u32>,
     places: Table<u32>,
     heads: RowTable,
@@ -53,7 +54,7 @@ impl Index {
         ensures { result ≡ no_index }
     {
         Index {
-            entries: Table::make(alloc),
+            lines: Lines::make(alloc),
             order: Table::make(alloc),
             places: Table::make(alloc),
             heads: RowTable::make(alloc),
@@ -79,17 +80,15 @@ impl Index {
 
     /// Memory for one more rule.
     pub fn reserve(&mut self, entry: Entry) -> Result<(), Memory>
-        requires within { IsWithin self.old.width (line_of (Some entry)) }
-        requires once { once_list entry ≡ each_once entry.body.items }
-        requires short { length entry.body.items < 2 ^ 26 }
+        requires { IsWithin self.old.width entry }
         ensures kept { KeepsRules self.old self.new }
-        ensures ready { OnOk result (self.new.ready ≡ Some (line_of (Some entry))) }
+        ensures ready { OnOk result (self.new.ready ≡ Some entry) }
         ensures forgotten { OnErr result (self.new.ready ≡ None) }
         ensures linking { self.new.linking ≡ None }
     {
         self.room = Room::Nothing;
         reserve_rule(
-            &mut self.entries,
+            &mut self.lines,
             &mut self.order,
             &mut self.places,
             &mut self.heads,
@@ -115,7 +114,7 @@ impl Index {
             Room::Nothing => unreachable!(),
             Room::ForLink(_) => unreachable!(),
             Room::ForRule(entry) => put_rule(
-                &mut self.entries,
+                &mut self.lines,
                 &mut self.order,
                 &mut self.places,
                 &mut self.heads,
@@ -178,7 +177,7 @@ impl Index {
     {
         self.room = Room::Nothing;
         let rule = read(&self.order, place);
-        take_rule(&mut self.entries, &mut self.heads, &mut self.uses, rule);
+        take_rule(&mut self.lines, &mut self.heads, &mut self.uses, rule);
         take_links(&mut self.lowers, &mut self.uppers, rule);
         self.order.remove(place);
         place_from(&mut self.places, &self.order, place);
@@ -208,7 +207,7 @@ impl Index {
         ensures { IsTrue result ↔ (length self.now.lines + length self.now.lines + self.now.width < self.now.numbers) }
     {
         let rules = self.order.len();
-        let empty = self.entries.len() - rules;
+        let empty = self.lines.len() - rules;
         if empty <= rules {
             return false;
         }
@@ -222,25 +221,31 @@ impl Index {
         self.order.len()
     }
 
+    #[tactic(auto, using(crate::proofs::OrderLemmas::order_still))]
     pub fn kind(&self, rule: usize) -> Kind
         requires { rule < length self.now.lines }
         ensures { result ≡ (get_or self.now.lines rule no_line).kind }
     {
-        self.entry(rule).kind
+        let inner = number_at(&self.order, self.places.len(), rule);
+        self.lines.kind(inner)
     }
 
+    #[tactic(auto, using(crate::proofs::OrderLemmas::order_still))]
     pub fn head(&self, rule: usize) -> usize
         requires { rule < length self.now.lines }
         ensures { result ≡ (get_or self.now.lines rule no_line).head }
     {
-        self.entry(rule).head as usize
+        let inner = number_at(&self.order, self.places.len(), rule);
+        self.lines.head(inner) as usize
     }
 
+    #[tactic(auto, using(crate::proofs::OrderLemmas::order_still))]
     pub fn body(&self, rule: usize, at: usize) -> Option<usize>
         requires { rule < length self.now.lines }
         ensures { result ≡ slice_get (get_or self.now.lines rule no_line).body at }
     {
-        match self.entry(rule).body.as_slice().get(at) {
+        let inner = number_at(&self.order, self.places.len(), rule);
+        match self.lines.body(inner).get(at) {
             None => None,
             Some(number) => Some(*number as usize),
         }
@@ -254,7 +259,7 @@ impl Index {
         if rule >= self.len() {
             return 0;
         }
-        self.entry(rule).each_once().len()
+        self.each_once(rule).len()
     }
 
     /// The number at a place of the body, each where it first stands; `None` exactly past the end, and where no such rule is.
@@ -264,7 +269,7 @@ impl Index {
         if rule >= self.len() {
             return None;
         }
-        match self.entry(rule).each_once().get(at) {
+        match self.each_once(rule).get(at) {
             None => None,
             Some(number) => Some(*number as usize),
         }
@@ -303,17 +308,14 @@ impl Index {
         Some(self.head(rule))
     }
 
-    fn entry(&self, rule: usize) -> &Entry
+    #[tactic(auto, using(crate::proofs::OrderLemmas::order_still))]
+    fn each_once(&self, rule: usize) -> &[u32]
         requires { rule < length self.now.lines }
-        ensures line { line_of (Some result.now) ≡ get_or self.now.lines rule no_line }
-        ensures once { once_list result.now ≡ each_once result.now.body.items }
-        ensures short { length result.now.body.items < 2 ^ 26 }
+        ensures numbers { result.now ≡ each_once (get_or self.now.lines rule no_line).body }
+        ensures few { length result.now < 2 ^ 26 }
     {
         let inner = number_at(&self.order, self.places.len(), rule);
-        match self.entries.at(inner) {
-            None => unreachable!(),
-            Some(entry) => entry,
-        }
+        self.lines.each_once(inner)
     }
 
     /// The place of the rule at a place among those with this head.
@@ -335,7 +337,7 @@ impl Index {
         ensures value { result ≡ length (places (kind_row strict) self.now.lines number) }
         ensures few { result ≤ length self.now.lines }
     {
-        count(&self.entries, self.heads.row(number), strict)
+        count(&self.lines, self.heads.row(number), strict)
     }
 
     /// The place of the rule at a place among those that have this literal in the body.
@@ -352,6 +354,7 @@ impl Index {
     }
 
     /// The place of the rule at a place among those below one.
+    #[tactic(auto, using(crate::proofs::OrderLemmas::order_still, crate::proofs::OrderLemmas::places_still, crate::proofs::PlaceLemmas::have_places))]
     pub fn lower_at(&self, rule: usize, at: usize) -> Option<usize>
         ensures { result ≡ slice_get (list_of self.now.lowers rule) at }
     {
@@ -361,6 +364,7 @@ impl Index {
         }
     }
 
+    #[tactic(auto, using(crate::proofs::OrderLemmas::order_still))]
     pub fn lower_len(&self, rule: usize) -> usize
         ensures { result ≡ length (list_of self.now.lowers rule) }
     {
@@ -371,6 +375,7 @@ impl Index {
     }
 
     /// The place of the rule at a place among those above one.
+    #[tactic(auto, using(crate::proofs::OrderLemmas::order_still, crate::proofs::OrderLemmas::places_still, crate::proofs::PlaceLemmas::have_places))]
     pub fn upper_at(&self, rule: usize, at: usize) -> Option<usize>
         ensures { result ≡ slice_get (list_of self.now.uppers rule) at }
     {
@@ -380,6 +385,7 @@ impl Index {
         }
     }
 
+    #[tactic(auto, using(crate::proofs::OrderLemmas::order_still))]
     pub fn upper_len(&self, rule: usize) -> usize
         ensures { result ≡ length (list_of self.now.uppers rule) }
     {
@@ -395,7 +401,7 @@ impl Index {
     {
         match number_of(&self.order, self.places.len(), rule) {
             None => 0,
-            Some(inner) => count(&self.entries, self.uppers.row(inner), false),
+            Some(inner) => count(&self.lines, self.uppers.row(inner), false),
         }
     }
 }

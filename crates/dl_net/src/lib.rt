@@ -1,13 +1,17 @@
 //! A theory by numbers.
 #![tactic(auto)]
 
+mod body;
+mod both;
 mod counts;
 mod edits;
 mod entry;
 mod index;
+mod lines;
 mod link;
 mod links;
 mod load;
+mod names;
 mod net;
 mod number;
 mod put;

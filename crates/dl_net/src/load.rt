@@ -13,9 +13,9 @@ ghost use Rattle.dl_net.specs.Lines.{KeepsRules, no_line};
 ghost use Rattle.std.specs.List.{flat_map};
 
 use crate::index::Index;
+use crate::names::PairedNames;
 use crate::number::number_rule;
 use dl_base::Memory;
-use dl_lit::Names;
 use dl_theory::{Pair, Rule, Theory};
 use std::alloc::Global;
 
@@ -33,7 +33,11 @@ pub(crate) fn other(number: usize) -> usize
 
 /// The index of a whole theory, whose rules' literals get numbers beside their complements where they have none. No inner number
 /// is empty.
-pub(crate) fn index_of(alloc: Global, names: &mut Names, theory: &Theory) -> Result<Index, Memory>
+pub(crate) fn index_of(
+    alloc: Global,
+    names: &mut PairedNames,
+    theory: &Theory,
+) -> Result<Index, Memory>
     requires { IsPaired names.old.literals }
     ensures paired { OnOk result (IsPaired names.new.literals) }
     ensures distinct { OnOk result (IsDistinct names.new.literals) }
@@ -55,7 +59,7 @@ pub(crate) fn index_of(alloc: Global, names: &mut Names, theory: &Theory) -> Res
 pub(crate) fn room_for_rule(
     alloc: Global,
     rule: &Rule,
-    names: &mut Names,
+    names: &mut PairedNames,
     index: &mut Index,
 ) -> Result<(), Memory>
     requires { IsPaired names.old.literals }
@@ -75,7 +79,7 @@ pub(crate) fn room_for_rule(
 /// Rules by the numbers of their literals, which get some beside their complements where they have none.
 fn load_rules(
     alloc: Global,
-    names: &mut Names,
+    names: &mut PairedNames,
     index: &mut Index,
     rules: &[Rule],
 ) -> Result<(), Memory>
@@ -103,7 +107,11 @@ fn load_rules(
 }
 
 /// Which rules stand below and above each rule.
-pub(crate) fn load_pairs(index: &mut Index, names: &Names, theory: &Theory) -> Result<(), Memory>
+pub(crate) fn load_pairs(
+    index: &mut Index,
+    names: &PairedNames,
+    theory: &Theory,
+) -> Result<(), Memory>
     requires distinct { IsDistinct names.now.literals }
     requires paired { IsPaired names.now.literals }
     requires named { All (HasLiterals names.now.literals) theory.now.rules }
@@ -122,7 +130,12 @@ pub(crate) fn load_pairs(index: &mut Index, names: &Names, theory: &Theory) -> R
     Ok(())
 }
 
-fn load_pair(index: &mut Index, names: &Names, theory: &Theory, pair: &Pair) -> Result<(), Memory>
+fn load_pair(
+    index: &mut Index,
+    names: &PairedNames,
+    theory: &Theory,
+    pair: &Pair,
+) -> Result<(), Memory>
     requires distinct { IsDistinct names.now.literals }
     requires paired { IsPaired names.now.literals }
     requires named { All (HasLiterals names.now.literals) theory.now.rules }
@@ -150,7 +163,7 @@ fn load_pair(index: &mut Index, names: &Names, theory: &Theory, pair: &Pair) -> 
 }
 
 /// Whether the head of one rule is attacked by that of another.
-pub(crate) fn meet(index: &Index, names: &Names, upper: usize, lower: usize) -> bool
+pub(crate) fn meet(index: &Index, names: &PairedNames, upper: usize, lower: usize) -> bool
     requires upper { upper < length index.now.lines }
     requires lower { lower < length index.now.lines }
     requires few { (get_or index.now.lines upper no_line).head < length names.now.literals }

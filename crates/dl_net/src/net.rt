@@ -12,11 +12,12 @@ ghost use Rattle.dl_theory.specs.Listings.{Mentions};
 use crate::index::Index;
 use crate::link::Link;
 use crate::load::{index_of, other};
+use crate::names::PairedNames;
 use crate::number::mark_facts;
 use crate::staged::Staged;
 use crate::table::Table;
 use dl_base::Memory;
-use dl_lit::{Literal, Names};
+use dl_lit::Literal;
 use dl_theory::{Pair, Rule, Theory};
 use std::alloc::Global;
 use std::marker::Model;
@@ -27,7 +28,7 @@ use std::marker::Model;
 #[derive(Drop)]
 pub struct Net {
     pub(crate) staged: Staged,
-    pub(crate) names: Names,
+    pub(crate) names: PairedNames,
     /// By number, whether the literal is a fact.
     pub(crate) facts: Table<bool>,
     pub(crate) index: Index,
@@ -54,7 +55,7 @@ impl Net {
         ensures { result ≡ no_net }
     {
         let theory = Theory::make(alloc);
-        let names = Names::make(alloc);
+        let names = PairedNames::make(alloc);
         let facts = Table::make(alloc);
         let index = Index::make(alloc);
         Net::whole(theory, names, facts, index, false)
@@ -66,7 +67,7 @@ impl Net {
         ensures pending { IfOk result (λ net. net.pending ≡ None) }
         ensures frozen { IfOk result (λ net. net.frozen ≡ false) }
     {
-        let mut names = Names::make(alloc);
+        let mut names = PairedNames::make(alloc);
         let facts = mark_facts(alloc, &mut names, theory.facts())?;
         let index = index_of(alloc, &mut names, &theory)?;
         Ok(Net::whole(theory, names, facts, index, false))
@@ -75,7 +76,7 @@ impl Net {
     /// A net of these parts.
     pub(crate) fn whole(
         theory: Theory,
-        names: Names,
+        names: PairedNames,
         facts: Table<bool>,
         index: Index,
         frozen: bool,

@@ -1,17 +1,19 @@
 //! Literals get numbers, each beside its complement.
 
-ghost use Rattle.std.specs.Prelude.{◌≡◌, ◌<◌, ◌≤◌, ◌^◌, ◌∷◌, ◌++◌, [], List, OnOk, IfOk, All, Some, Contains, length, map};
+ghost use Rattle.std.specs.Prelude.{◌≡◌, ◌<◌, ◌≤◌, ◌^◌, ◌∷◌, ◌++◌, [], List, OnOk, IfOk, All, Contains, length, map};
 ghost use Rattle.dl_base.specs.Paths.{IsDistinct};
 ghost use Rattle.dl_lit.specs.declared.literal.Literal.{Literal};
 ghost use Rattle.dl_net.specs.Named.{IsPaired, IsNear, Grows, HasLiterals, number_in, line_in, HasFacts};
 ghost use Rattle.dl_net.specs.Counting.{each_once};
-ghost use Rattle.dl_net.specs.Lines.{line_of, once_or, once_list};
+ghost use Rattle.dl_net.specs.Lines.{once_or};
 
+use crate::body::BodyNumbers;
 use crate::entry::Entry;
+use crate::names::PairedNames;
 use crate::row::Row;
 use crate::table::Table;
 use dl_base::Memory;
-use dl_lit::{Literal, Names};
+use dl_lit::Literal;
 use dl_theory::{Kind, Rule};
 use indexmap::IndexSet;
 use std::alloc::Global;
@@ -19,8 +21,8 @@ use std::alloc::Global;
 /// Bodies are shorter, so that what a node of a fill waits for is counted in few bits.
 const BODY_LIMIT: usize = 0x400_0000;
 
-/// The number of a literal, which gets one beside its complement if it has none. Most have one, and cost one look-up and no copy.
-pub(crate) fn number_literal(names: &mut Names, literal: &Literal) -> Result<u32, Memory>
+/// The number of a literal, which gets one beside its complement if it has none.
+pub(crate) fn number_literal(names: &mut PairedNames, literal: &Literal) -> Result<u32, Memory>
     requires { IsPaired names.old.literals }
     ensures paired { IsPaired names.new.literals }
     ensures distinct { IsDistinct names.new.literals }
@@ -29,28 +31,16 @@ pub(crate) fn number_literal(names: &mut Names, literal: &Literal) -> Result<u32
     ensures number { IfOk result (λ n. n ≡ number_in names.new.literals literal.now) }
     ensures same { Contains names.old.literals literal.now → names.new ≡ names.old }
 {
-    match names.find(literal) {
-        Some(number) => narrow(number),
-        None => {
-            let number = names.len();
-            names.intern_both(literal)?;
-            narrow(number)
-        }
-    }
-}
-
-/// The number in half the space; want of memory where it is too large for that.
-fn narrow(number: usize) -> Result<u32, Memory>
-    ensures { IfOk result (λ n. n ≡ number) }
-{
-    if number > u32::MAX as usize {
-        return Err(Memory);
-    }
+    let number = names.number(literal)?;
     Ok(number as u32)
 }
 
 /// The numbers of literals, which get some beside their complements where they have none.
-fn number_literals(alloc: Global, names: &mut Names, literals: &[Literal]) -> Result<Row, Memory>
+fn number_literals(
+    alloc: Global,
+    names: &mut PairedNames,
+    literals: &[Literal],
+) -> Result<Row, Memory>
     requires paired { IsPaired names.old.literals }
     requires distinct { IsDistinct names.old.literals }
     ensures paired { IsPaired names.new.literals }
@@ -68,15 +58,17 @@ fn number_literals(alloc: Global, names: &mut Names, literals: &[Literal]) -> Re
 }
 
 /// A rule by the numbers of its literals, which get some beside their complements where they have none.
-pub(crate) fn number_rule(alloc: Global, names: &mut Names, rule: &Rule) -> Result<Entry, Memory>
+pub(crate) fn number_rule(
+    alloc: Global,
+    names: &mut PairedNames,
+    rule: &Rule,
+) -> Result<Entry, Memory>
     requires { IsPaired names.old.literals }
     ensures paired { IsPaired names.new.literals }
     ensures distinct { IsDistinct names.new.literals }
     ensures grown { Grows (IsNear (rule.now.head ∷ rule.now.body)) names.old.literals names.new.literals }
     ensures there { OnOk result (HasLiterals names.new.literals rule.now) }
-    ensures line { IfOk result (λ e. line_of (Some e) ≡ line_in names.new.literals rule.now) }
-    ensures once { IfOk result (λ e. once_list e ≡ each_once e.body.items) }
-    ensures short { IfOk result (λ e. length e.body.items < 2 ^ 26) }
+    ensures line { IfOk result (λ e. e ≡ line_in names.new.literals rule.now) }
     ensures same { HasLiterals names.old.literals rule.now → names.new ≡ names.old }
 {
     let head = number_literal(names, &rule.head)?;
@@ -85,21 +77,15 @@ pub(crate) fn number_rule(alloc: Global, names: &mut Names, rule: &Rule) -> Resu
 }
 
 /// A rule of these numbers.
-fn entry_of(alloc: Global, kind: Kind, head: u32, body: Row) -> Result<Entry, Memory>
-    ensures line { IfOk result (λ e. line_of (Some e) ≡ record { kind = kind; head = head; body = body.items }) }
-    ensures once { IfOk result (λ e. once_list e ≡ each_once e.body.items) }
-    ensures short { IfOk result (λ e. length e.body.items < 2 ^ 26) }
+fn entry_of(alloc: Global, kind: Kind, head: u32, numbers: Row) -> Result<Entry, Memory>
+    ensures { IfOk result (λ e. e ≡ record { kind = kind; head = head; body = numbers.items }) }
 {
-    if body.len() >= BODY_LIMIT {
+    if numbers.len() >= BODY_LIMIT {
         return Err(Memory);
     }
-    let once = once_of(alloc, body.as_slice())?;
-    Ok(Entry {
-        kind,
-        head,
-        body,
-        once,
-    })
+    let once = once_of(alloc, numbers.as_slice())?;
+    let body = BodyNumbers::make(alloc, numbers, once)?;
+    Ok(Entry { kind, head, body })
 }
 
 /// The numbers, each where it first stands; `None` where none stands twice.
@@ -146,7 +132,7 @@ fn firsts(alloc: Global, numbers: &[u32]) -> Result<Row, Memory>
 
 /// The number of a fact, which gets one beside its complement if it has none, and a mark that is not set.
 pub(crate) fn number_fact(
-    names: &mut Names,
+    names: &mut PairedNames,
     marks: &mut Table<bool>,
     fact: &Literal,
 ) -> Result<u32, Memory>
@@ -168,7 +154,7 @@ pub(crate) fn number_fact(
 }
 
 /// Marks one more fact, by its number.
-fn mark_fact(names: &mut Names, marks: &mut Table<bool>, fact: &Literal) -> Result<(), Memory>
+fn mark_fact(names: &mut PairedNames, marks: &mut Table<bool>, fact: &Literal) -> Result<(), Memory>
     requires { IsPaired names.old.literals }
     ensures paired { OnOk result (IsPaired names.new.literals) }
     ensures distinct { OnOk result (IsDistinct names.new.literals) }
@@ -185,7 +171,7 @@ fn mark_fact(names: &mut Names, marks: &mut Table<bool>, fact: &Literal) -> Resu
 /// By number, whether the literal is a fact. Facts get numbers beside their complements where they have none.
 pub(crate) fn mark_facts(
     alloc: Global,
-    names: &mut Names,
+    names: &mut PairedNames,
     facts: &[Literal],
 ) -> Result<Table<bool>, Memory>
     requires { IsPaired names.old.literals }

@@ -1,10 +1,11 @@
 //! One more rule, in room that is there.
 
-ghost use Rattle.std.specs.Prelude.{◌≡◌, ℕ, ◌+◌, ◌<◌, ◌≤◌, ◌^◌, max, [], ◌∷◌, ◌++◌, All, Some, length, OnOk, if◌then◌else◌, set};
+ghost use Rattle.std.specs.Prelude.{◌≡◌, ℕ, ◌+◌, ◌<◌, ◌≤◌, ◌^◌, max, [], ◌∷◌, ◌++◌, All, length, OnOk, if◌then◌else◌, set};
 ghost use Rattle.dl_net.specs.Tables.{list_at, spare_at, KeepsLists};
-ghost use Rattle.dl_net.specs.Lines.{is_in, list_of, line_of, entry_at, IsWithin, IsKeptEntry};
+ghost use Rattle.dl_net.specs.Lines.{is_in};
 
 use crate::entry::Entry;
+use crate::lines::Lines;
 use crate::rows::RowTable;
 use crate::table::Table;
 use dl_base::Memory;
@@ -64,7 +65,7 @@ pub(crate) fn reserve_at(rows: &mut RowTable, number: u32) -> Result<(), Memory>
 
 /// Room for one more rule, and no other change.
 pub(crate) fn reserve_rule(
-    entries: &mut Table<Option<Entry>>,
+    lines: &mut Lines,
     order: &mut Table<u32>,
     places: &mut Table<u32>,
     heads: &mut RowTable,
@@ -72,25 +73,25 @@ pub(crate) fn reserve_rule(
     entry: &Entry,
 ) -> Result<(), Memory>
     requires head { entry.now.head < length heads.old.lists }
-    requires body { All (λ b. b < length uses.old.lists) entry.now.body.items }
-    ensures entries { entries.new.items ≡ entries.old.items }
+    requires body { All (λ b. b < length uses.old.lists) entry.now.body }
+    ensures lines { lines.new.items ≡ lines.old.items }
     ensures order { order.new.items ≡ order.old.items }
     ensures places { places.new.items ≡ places.old.items }
     ensures heads { KeepsLists heads.old heads.new }
     ensures uses { KeepsLists uses.old uses.new }
     ensures heads_same { length heads.new.lists ≡ length heads.old.lists }
     ensures uses_same { length uses.new.lists ≡ length uses.old.lists }
-    ensures entries_room { OnOk result (0 < entries.new.spare) }
+    ensures lines_room { OnOk result (0 < lines.new.spare) }
     ensures order_room { OnOk result (0 < order.new.spare) }
     ensures places_room { OnOk result (0 < places.new.spare) }
-    ensures few { OnOk result (length entries.new.items < 2 ^ 32) }
+    ensures few { OnOk result (length lines.new.items < 2 ^ 32) }
     ensures heads_room { OnOk result (0 < spare_at heads.new entry.now.head) }
-    ensures uses_room { OnOk result (All (λ b. 0 < spare_at uses.new b) entry.now.body.items) }
+    ensures uses_room { OnOk result (All (λ b. 0 < spare_at uses.new b) entry.now.body) }
 {
-    if entries.len() > u32::MAX as usize {
+    if lines.len() > u32::MAX as usize {
         return Err(Memory);
     }
-    entries.reserve()?;
+    lines.reserve()?;
     order.reserve()?;
     places.reserve()?;
     heads.reserve(entry.head as usize)?;
@@ -100,34 +101,34 @@ pub(crate) fn reserve_rule(
 
 /// The rule goes last, and into the list of its head and into those of its body's literals.
 pub(crate) fn put_rule(
-    entries: &mut Table<Option<Entry>>,
+    lines: &mut Lines,
     order: &mut Table<u32>,
     places: &mut Table<u32>,
     heads: &mut RowTable,
     uses: &mut RowTable,
     entry: Entry,
 )
-    requires entries_room { 0 < entries.old.spare }
+    requires lines_room { 0 < lines.old.spare }
     requires order_room { 0 < order.old.spare }
     requires places_room { 0 < places.old.spare }
-    requires few { length entries.old.items < 2 ^ 32 }
-    requires fewer { length order.old.items ≤ length entries.old.items }
+    requires few { length lines.old.items < 2 ^ 32 }
+    requires fewer { length order.old.items ≤ length lines.old.items }
     requires heads_room { 0 < spare_at heads.old entry.head }
-    requires uses_room { All (λ b. 0 < spare_at uses.old b) entry.body.items }
-    requires within { All (λ b. b < length uses.old.lists) entry.body.items }
-    requires fresh { (n : ℕ) → All (λ s. s < length entries.old.items) (list_at uses.old n) }
-    ensures entries { entries.new.items ≡ entries.old.items ++ Some entry ∷ [] }
-    ensures order { order.new.items ≡ order.old.items ++ length entries.old.items ∷ [] }
+    requires uses_room { All (λ b. 0 < spare_at uses.old b) entry.body }
+    requires within { All (λ b. b < length uses.old.lists) entry.body }
+    requires fresh { (n : ℕ) → All (λ s. s < length lines.old.items) (list_at uses.old n) }
+    ensures lines { lines.new.items ≡ lines.old.items ++ entry ∷ [] }
+    ensures order { order.new.items ≡ order.old.items ++ length lines.old.items ∷ [] }
     ensures places { places.new.items ≡ places.old.items ++ length order.old.items ∷ [] }
-    ensures heads { heads.new.lists ≡ set heads.old.lists entry.head (list_at heads.old entry.head ++ length entries.old.items ∷ []) }
-    ensures uses { (n : ℕ) → list_at uses.new n ≡ list_at uses.old n ++ (if is_in entry.body.items n then length entries.old.items ∷ [] else []) }
+    ensures heads { heads.new.lists ≡ set heads.old.lists entry.head (list_at heads.old entry.head ++ length lines.old.items ∷ []) }
+    ensures uses { (n : ℕ) → list_at uses.new n ≡ list_at uses.old n ++ (if is_in entry.body n then length lines.old.items ∷ [] else []) }
     ensures uses_same { length uses.new.lists ≡ length uses.old.lists }
 {
-    let rule = entries.len() as u32;
+    let rule = lines.len() as u32;
     let place = order.len() as u32;
     heads.push(entry.head as usize, rule);
     put_uses(uses, entry.body.as_slice(), rule);
-    entries.push(Some(entry));
+    lines.push(entry);
     order.push(rule);
     places.push(place);
 }

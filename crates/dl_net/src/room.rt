@@ -12,11 +12,12 @@ ghost use Rattle.dl_net.specs.Named.{IsPaired, IsNear, Grows, HasFacts, HasLiter
 
 use crate::index::Index;
 use crate::load::{meet, room_for_rule};
+use crate::names::PairedNames;
 use crate::number::number_fact;
 use crate::staged::Staged;
 use crate::table::Table;
 use dl_base::Memory;
-use dl_lit::{Literal, Names};
+use dl_lit::Literal;
 use dl_theory::{Edit, Pair};
 use std::alloc::Global;
 
@@ -25,7 +26,7 @@ pub(crate) fn take_room(
     alloc: Global,
     edit: &Edit,
     staged: &Staged,
-    names: &mut Names,
+    names: &mut PairedNames,
     facts: &mut Table<bool>,
     index: &mut Index,
 ) -> Result<(), Memory>
@@ -51,7 +52,11 @@ pub(crate) fn take_room(
 }
 
 /// Room for a fact, which gets a number with its complement.
-fn room_for_fact(fact: &Literal, names: &mut Names, facts: &mut Table<bool>) -> Result<(), Memory>
+fn room_for_fact(
+    fact: &Literal,
+    names: &mut PairedNames,
+    facts: &mut Table<bool>,
+) -> Result<(), Memory>
     requires { IsPaired names.old.literals }
     ensures paired { IsPaired names.new.literals }
     ensures grown { Grows (IsNear (fact.now ∷ [])) names.old.literals names.new.literals }
@@ -67,7 +72,7 @@ fn room_for_fact(fact: &Literal, names: &mut Names, facts: &mut Table<bool>) -> 
 fn room_for_pair(
     pair: &Pair,
     staged: &Staged,
-    names: &Names,
+    names: &PairedNames,
     index: &mut Index,
 ) -> Result<(), Memory>
     requires labels { HasBoth staged.now.theory pair.now }

@@ -30,10 +30,11 @@ enum Numbers {
 }
 
 impl Model for Row {
-    ghost use Rattle.dl_net.specs.Row.{NumberList};
+    ghost use Rattle.std.specs.Prelude.{ℕ};
+    ghost use Rattle.dl_net.specs.Listed.{Listed};
     ghost use Rattle.dl_net.specs.KeptRow.{row_of, IsKeptRow};
 
-    ghost Value = { NumberList };
+    ghost Value = { Listed ℕ };
 
     ghost view = { λ r. row_of r.numbers };
 

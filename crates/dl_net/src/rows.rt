@@ -15,9 +15,9 @@ pub(crate) struct RowTable {
 }
 
 impl Model for RowTable {
-    ghost use Rattle.dl_net.specs.Tables.{Table};
+    ghost use Rattle.dl_net.specs.Tables.{RowLists};
 
-    ghost Value = { Table };
+    ghost Value = { RowLists };
 
     ghost use Rattle.dl_net.specs.TablesView.{table_of};
 

@@ -1,12 +1,12 @@
 //! One rule less.
 
-ghost use Rattle.std.specs.Prelude.{◌≡◌, ℕ, ◌<◌, ◌≤◌, ◌^◌, ◌==◌, [], All, None, length, set, get_or, if◌then◌else◌};
+ghost use Rattle.std.specs.Prelude.{◌≡◌, ℕ, ◌<◌, ◌≤◌, ◌^◌, ◌==◌, [], All, length, set, get_or, if◌then◌else◌};
 ghost use Rattle.dl_base.specs.Paths.{IsDistinct};
 ghost use Rattle.dl_net.specs.Tables.{list_at, drop_item};
-ghost use Rattle.dl_net.specs.Lines.{is_in, entry_at, IsKeptEntry};
-ghost use Rattle.dl_net.specs.Indexes.{line_at, place_in};
+ghost use Rattle.dl_net.specs.Lines.{is_in, no_line, line_at};
+ghost use Rattle.dl_net.specs.Indexes.{place_in};
 
-use crate::entry::Entry;
+use crate::lines::Lines;
 use crate::rows::RowTable;
 use crate::table::Table;
 
@@ -21,27 +21,18 @@ pub(crate) fn take_out(rows: &mut RowTable, numbers: &[u32], item: u32)
 }
 
 /// A rule goes, and out of the lists of its head and of its body's literals.
-pub(crate) fn take_rule(
-    entries: &mut Table<Option<Entry>>,
-    heads: &mut RowTable,
-    uses: &mut RowTable,
-    rule: u32,
-)
-    requires within { rule < length entries.old.items }
-    requires kept { IsKeptEntry (length heads.old.lists) (entry_at entries.old.items rule) }
-    ensures entries { entries.new.items ≡ set entries.old.items rule None }
-    ensures heads { (n : ℕ) → list_at heads.new n ≡ (if n == (line_at entries.old.items rule).head then drop_item rule (list_at heads.old n) else list_at heads.old n) }
-    ensures uses { (n : ℕ) → list_at uses.new n ≡ (if is_in (line_at entries.old.items rule).body n then drop_item rule (list_at uses.old n) else list_at uses.old n) }
+pub(crate) fn take_rule(lines: &mut Lines, heads: &mut RowTable, uses: &mut RowTable, rule: u32)
+    requires { rule < length lines.old.items }
+    ensures lines { lines.new.items ≡ set lines.old.items rule no_line }
+    ensures heads { (n : ℕ) → list_at heads.new n ≡ (if n == (line_at lines.old.items rule).head then drop_item rule (list_at heads.old n) else list_at heads.old n) }
+    ensures uses { (n : ℕ) → list_at uses.new n ≡ (if is_in (line_at lines.old.items rule).body n then drop_item rule (list_at uses.old n) else list_at uses.old n) }
     ensures heads_same { length heads.new.lists ≡ length heads.old.lists }
     ensures uses_same { length uses.new.lists ≡ length uses.old.lists }
 {
-    match entries.replace(rule as usize, None) {
-        None => unreachable!(),
-        Some(entry) => {
-            heads.remove(entry.head as usize, rule);
-            take_out(uses, entry.body.as_slice(), rule);
-        }
-    }
+    let inner = rule as usize;
+    heads.remove(lines.head(inner) as usize, rule);
+    take_out(uses, lines.body(inner), rule);
+    lines.clear(inner);
 }
 
 /// A rule goes out of what stands below and above the others, and nothing stands below or above it.

@@ -8,9 +8,19 @@ use Rattle.dl_base.proofs.Members.{only}
 use Rattle.dl_base.proofs.Distinct.{no_longer, distinct_right, distinct_apart}
 use Rattle.dl_lit.specs.declared.literal.Literal.{Literal}
 use Rattle.dl_lit.specs.Literal.{complement}
-use Rattle.dl_net.specs.Named.{IsNear}
-use Rattle.dl_net.proofs.NameLemmas.{complement_twice}
+use Rattle.dl_lit.specs.Names.{with_both}
+use Rattle.dl_theory.proofs.Deciding.{literal_in}
+use Rattle.dl_net.specs.Named.{IsNear, IsPaired}
+use Rattle.dl_net.proofs.NameLemmas.{complement_twice, paired_push, both_old, both_new}
 use Rattle.dl_update.specs.Drafts.{IsNew, IsEnough}
+
+-- names in pairs stay so with one more literal and its complement
+pub both_paired : (ls : List Literal) (q : Literal) → IsPaired ls → IsPaired (with_both ls q)
+both_paired ls q h =
+    elim (literal_in ls q) [
+      | inl there ↦ subst IsPaired (sym (both_old ls q h there)) h
+      | inr none ↦ subst IsPaired (sym (both_new ls q h none)) (paired_push ls q h)
+    ]
 
 -- with a literal, what is near it is there
 pub near_there : (ls : List Literal) → ((q : Literal) → Contains ls q → Contains ls (complement q)) → (l q : Literal) → Contains ls l → IsNear (l ∷ []) q

@@ -1,9 +1,8 @@
-use Rattle.std.proofs.Common.{◌≡◌, [], ◌∷◌, List, map, Some, sym, subst, ◌∙◌}
+use Rattle.std.proofs.Common.{◌≡◌, [], ◌∷◌, List, map, sym, subst, ◌∙◌}
 use Rattle.std.specs.Prelude.{All, Contains}
 use Rattle.std.proofs.lemmas.Result.{IfOk-weaker}
 use Rattle.dl_lit.specs.declared.literal.Literal.{Literal}
 use Rattle.dl_lit.specs.Names.{Numbering}
-use Rattle.dl_net.specs.Lines.{line_of}
 use Rattle.dl_net.specs.Named.{IsNear, HasLiterals, Grows, number_in, line_in}
 use Rattle.dl_net.proofs.NameLemmas.{Grows-trans, Grows-weaker, Grows-keeps, near_head, near_tail, ok_from}
 use Rattle.dl_net.proofs.NetLemmas.{number_kept}
@@ -46,9 +45,9 @@ returns-clause-line c =
     ∙ number_kept mid new c.number_literals.ensures.distinct (IsNear c.as_slice.result.now) c.number_literals.ensures.grown c.args.rule.now.head c.in_ok-head.ensures.there in
     let body : c.in_ok-body.body.items ≡ map (number_in new) c.args.rule.now.body =
     subst (λ (xs : List Literal). c.in_ok-body.body.items ≡ map (number_in new) xs) c.as_slice.ensures c.in_ok-body.ensures.numbers in
-    IfOk-weaker c.entry_of.result (λ e. line_of (Some e) ≡ record { kind = c.args.rule.now.kind; head = c.in_ok-head.head; body = c.in_ok-body.body.items })
-    (λ e. line_of (Some e) ≡ line_in new c.args.rule.now)
-    (λ e is. is ∙ (λ i. record { kind = c.args.rule.now.kind; head = head i; body = body i })) c.entry_of.ensures.line
+    IfOk-weaker c.entry_of.result (λ e. e ≡ record { kind = c.args.rule.now.kind; head = c.in_ok-head.head; body = c.in_ok-body.body.items })
+    (λ e. e ≡ line_in new c.args.rule.now)
+    (λ e is. is ∙ (λ i. record { kind = c.args.rule.now.kind; head = head i; body = body i })) c.entry_of.ensures
 
 pub returns-in_err-head-clause-same : goal.returns-in_err-head-clause-same
 returns-in_err-head-clause-same c = λ h. c.number_literal.ensures.same h.0

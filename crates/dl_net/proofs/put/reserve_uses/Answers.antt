@@ -2,14 +2,14 @@ use Rattle.std.proofs.Common.{ℕ, ◌<◌, List, get_or, take, sym, subst, ◌�
 use Rattle.std.specs.Prelude.{All}
 use Rattle.std.proofs.lemmas.List.{take_more, take_all}
 use Rattle.std.proofs.lemmas.List.Elements.{All-push, All-weaker}
-use Rattle.dl_net.specs.Tables.{Table, spare_at}
+use Rattle.dl_net.specs.Tables.{RowLists, spare_at}
 use Rattle.dl_net.proofs.Keeping.{KeepsLists-trans}
 use Rattle.dl_net.proofs.put.reserve_uses.Goals as goal
 
 pub loop-number-preserved : goal.loop-number-preserved
 loop-number-preserved c =
     let i : ℕ = c.loop-number.number-index in
-    let new : Table = c.reserve.new.self in
+    let new : RowLists = c.reserve.new.self in
     record {
       same = c.in_ok-reserve.ensures.same ∙ c.loop-number.invariant.same;
       kept = KeepsLists-trans c.args.uses.now c.loop-number.uses new c.loop-number.invariant.kept c.in_ok-reserve.ensures.kept;

@@ -1,6 +1,6 @@
 use Rattle.std.proofs.Common.{◌≡◌, ℕ, List, get_or, take, cond, sym, subst, ◌∙◌}
 use Rattle.std.proofs.lemmas.List.{take_more, take_all}
-use Rattle.dl_net.specs.Tables.{Table, list_at, drop_item}
+use Rattle.dl_net.specs.Tables.{RowLists, list_at, drop_item}
 use Rattle.dl_net.specs.Lines.{is_in}
 use Rattle.dl_net.proofs.TakeLemmas.{taken}
 use Rattle.dl_net.proofs.take.take_out.Goals as goal
@@ -10,8 +10,8 @@ loop-number-preserved c =
     let xs : List ℕ = c.args.numbers.now in
     let i : ℕ = c.loop-number.number-index in
     let b : ℕ = get_or xs i 0 in
-    let old : Table = c.args.rows.now in
-    let now : Table = c.loop-number.rows in
+    let old : RowLists = c.args.rows.now in
+    let now : RowLists = c.loop-number.rows in
     record {
       lists = λ n.
           subst (λ (ds : List ℕ). list_at c.remove.new.self n ≡ cond (is_in ds n) (drop_item c.args.item (list_at old n)) (list_at old n))

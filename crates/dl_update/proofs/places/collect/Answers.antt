@@ -3,9 +3,9 @@ use Rattle.std.specs.Prelude.{Contains}
 use Rattle.dl_lit.specs.declared.literal.Literal.{Literal}
 use Rattle.dl_lit.specs.Names.{with_both}
 use Rattle.dl_net.specs.Named.{IsPaired, IsNear, Grows}
-use Rattle.dl_net.proofs.NameLemmas.{both_paired, both_grows, paired_closed, Grows-none, Grows-weaker, by_result, found_at}
+use Rattle.dl_net.proofs.NameLemmas.{both_grows, paired_closed, Grows-none, Grows-weaker, by_result, found_at}
 use Rattle.dl_update.specs.Drafts.{IsNew}
-use Rattle.dl_update.proofs.News.{near_there, near_new, on_ok}
+use Rattle.dl_update.proofs.News.{both_paired, near_there, near_new, on_ok}
 use Rattle.dl_update.proofs.places.collect.Goals as goal
 
 pub returns-in-Some-clause-there : goal.returns-in-Some-clause-there

@@ -1,4 +1,4 @@
-use Rattle.std.proofs.Common.{◌≡◌, ℕ, List, ap, subst, ◌∙◌, arith}
+use Rattle.std.proofs.Common.{◌≡◌, ℕ, List, ap, subst, ◌∙◌}
 use Rattle.std.specs.Prelude.{slice_get}
 use Rattle.dl_net.specs.Rows.{places}
 use Rattle.dl_net.specs.Tables.{list_at}
@@ -9,18 +9,16 @@ use Rattle.dl_net.proofs.index.Index.heads_at.Goals as goal
 
 pub place_at-requires-clause-within : goal.place_at-requires-clause-within
 place_at-requires-clause-within c =
-    have_places c.self.inside.entries.items c.self.inside.order.items c.self.inside.places.items c.self.inside.heads c.self.inside.uses c.self.invariant.rules
+    have_places c.self.invariant.rules
     (list_at c.self.inside.heads c.args.number)
-    (heads_there c.self.inside.entries.items c.self.inside.order.items c.self.inside.places.items c.self.inside.heads c.self.inside.uses c.self.invariant.rules c.args.number)
+    (heads_there c.self.invariant.rules c.args.number)
 
 pub place_at-requires-clause-still : goal.place_at-requires-clause-still
 place_at-requires-clause-still c =
-    places_still c.self.inside.entries.items c.self.inside.order.items c.self.inside.places.items c.self.inside.heads c.self.inside.uses c.self.invariant.rules
-    c.len.result (omega (arith, c.len.ensures))
+    places_still c.self.invariant.rules c.len.ensures
 
 pub returns : goal.returns
 returns c =
     subst (λ (v : IndexLists). c.place_at.result ≡ slice_get (places heads_row v.lines c.args.number) c.args.at) c.self.view_is
     (c.place_at.ensures
-    ∙ ap (λ (xs : List ℕ). slice_get xs c.args.at) (heads_are c.self.inside.entries.items c.self.inside.order.items c.self.inside.places.items
-    c.self.inside.heads c.self.inside.uses c.self.invariant.rules c.args.number))
+    ∙ ap (λ (xs : List ℕ). slice_get xs c.args.at) (heads_are c.self.invariant.rules c.args.number))

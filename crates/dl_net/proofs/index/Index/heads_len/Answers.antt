@@ -12,8 +12,7 @@ returns-clause-value c =
     subst (λ (v : IndexLists). c.count.result ≡ length (places heads_row v.lines c.args.number)) c.self.view_is
     (c.count.ensures
     ∙ sym (length-map (list_at c.self.inside.heads c.args.number) (place_in c.self.inside.places.items))
-    ∙ ap length (heads_are c.self.inside.entries.items c.self.inside.order.items c.self.inside.places.items c.self.inside.heads c.self.inside.uses
-    c.self.invariant.rules c.args.number))
+    ∙ ap length (heads_are c.self.invariant.rules c.args.number))
 
 pub returns-clause-few : goal.returns-clause-few
 returns-clause-few c =
@@ -21,6 +20,5 @@ returns-clause-few c =
     (omega (
       arith,
       c.count.ensures,
-      heads_few c.self.inside.entries.items c.self.inside.order.items c.self.inside.places.items c.self.inside.heads c.self.inside.uses
-          c.self.invariant.rules c.args.number,
+      heads_few c.self.invariant.rules c.args.number,
     ))

@@ -13,7 +13,7 @@ invariant_of-self c =
     subst (λ (r : Room). HasRoom c.self.inside r) (sym c.in-ForLink.ensures.value) c.self.invariant.room in
     record {
       rules = c.self.invariant.rules;
-      links = HasLinks-put (length c.self.inside.entries.items) c.self.inside.order.items c.self.inside.lowers c.self.inside.uppers c.push.new.self c.push-in-ForLink.new.self
+      links = HasLinks-put (length c.self.inside.lines.items) c.self.inside.order.items c.self.inside.lowers c.self.inside.uppers c.push.new.self c.push-in-ForLink.new.self
           c.in-ForLink.link.upper c.in-ForLink.link.lower c.self.invariant.links c.self.invariant.rules.within room.upper room.lower
           (record { within = room.lowers_wide; lists = c.push.ensures.lists })
           (record { within = room.uppers_wide; lists = c.push-in-ForLink.ensures.lists });

@@ -1,21 +1,20 @@
-use Rattle.std.proofs.Common.{◌≡◌, ℕ, ◌<◌, Some, List, length, sym, ap, subst, ◌∙◌, arith, refl}
-use Rattle.std.proofs.Math.ListN.{length-map}
+use Rattle.std.proofs.Common.{◌≡◌, ℕ, ◌<◌, Some, List, length, ap, subst, ◌∙◌, arith, refl}
 use Rattle.dl_net.specs.Lines.{IndexLists, KeepsRules}
-use Rattle.dl_net.specs.Indexes.{line_at, place_in}
+use Rattle.dl_net.specs.Indexes.{place_in}
 use Rattle.dl_net.specs.KeptIndex.{index_of}
-use Rattle.dl_net.specs.Tables.{Table, KeepsLists}
+use Rattle.dl_net.specs.Tables.{RowLists, KeepsLists}
 use Rattle.dl_net.specs.declared.index.Index.TheInside.{Inside}
 use Rattle.dl_net.specs.declared.entry.Room.{Room}
 use Rattle.dl_net.specs.declared.entry.Room.TheVariants.{Nothing, ForLink}
 use Rattle.dl_net.proofs.Keeping.{KeepsLists-refl}
 use Rattle.dl_net.proofs.RuleLemmas.{HasLinks-more, by_place-kept}
-use Rattle.dl_net.proofs.OrderLemmas.{read_member}
+use Rattle.dl_net.proofs.OrderLemmas.{order_length, read_member}
 use Rattle.dl_net.proofs.index.Index.reserve_link.Goals as goal
 
 pub invariant_of-self : goal.invariant_of-self
 invariant_of-self c = record {
   rules = c.self.invariant.rules;
-  links = HasLinks-more (length c.self.inside.entries.items) (length c.self.inside.entries.items) c.self.inside.order.items c.self.inside.order.items
+  links = HasLinks-more (length c.self.inside.lines.items) (length c.self.inside.lines.items) c.self.inside.order.items c.self.inside.order.items
       c.self.inside.lowers c.self.inside.uppers c.reserve_at.new.rows c.self.inside.uppers c.reserve_at.ensures.kept (KeepsLists-refl c.self.inside.uppers)
       c.self.invariant.links (λ s m. m) (omega arith);
   room = tt;
@@ -24,14 +23,14 @@ invariant_of-self c = record {
 pub invariant_of-self-in_err-reserve_at-2 : goal.invariant_of-self-in_err-reserve_at-2
 invariant_of-self-in_err-reserve_at-2 c = record {
   rules = c.self.invariant.rules;
-  links = HasLinks-more (length c.self.inside.entries.items) (length c.self.inside.entries.items) c.self.inside.order.items c.self.inside.order.items
+  links = HasLinks-more (length c.self.inside.lines.items) (length c.self.inside.lines.items) c.self.inside.order.items c.self.inside.order.items
       c.self.inside.lowers c.self.inside.uppers c.reserve_at.new.rows c.reserve_at-2.new.rows c.reserve_at.ensures.kept c.reserve_at-2.ensures.kept
       c.self.invariant.links (λ s m. m) (omega arith);
   room = tt;
 }
 
 -- where only the tables of links have become longer
-only_wider : (a : Inside) (lowers uppers : Table) (room : Room) → KeepsLists a.lowers lowers → KeepsLists a.uppers uppers → (v : IndexLists) → index_of a ≡ v
+only_wider : (a : Inside) (lowers uppers : RowLists) (room : Room) → KeepsLists a.lowers lowers → KeepsLists a.uppers uppers → (v : IndexLists) → index_of a ≡ v
     → KeepsRules v (index_of (record a { lowers = lowers; uppers = uppers; room = room }))
 only_wider a lowers uppers room kl ku v is =
     subst (λ (w : IndexLists). KeepsRules w (index_of (record a { lowers = lowers; uppers = uppers; room = room }))) is
@@ -54,11 +53,10 @@ returns-clause-kept c =
 
 pub invariant_of-self-2 : goal.invariant_of-self-2
 invariant_of-self-2 c =
-    let len : length c.self.inside.order.items ≡ length c.args.self.now.lines =
-    sym (length-map c.self.inside.order.items (line_at c.self.inside.entries.items)) ∙ ap (λ (v : IndexLists). length v.lines) c.self.view_is in
+    let len = order_length c.self.inside c.args.self.now c.self.view_is in
     record {
       rules = c.self.invariant.rules;
-      links = HasLinks-more (length c.self.inside.entries.items) (length c.self.inside.entries.items) c.self.inside.order.items c.self.inside.order.items
+      links = HasLinks-more (length c.self.inside.lines.items) (length c.self.inside.lines.items) c.self.inside.order.items c.self.inside.order.items
           c.self.inside.lowers c.self.inside.uppers c.reserve_at.new.rows c.reserve_at-2.new.rows c.reserve_at.ensures.kept c.reserve_at-2.ensures.kept
           c.self.invariant.links (λ s m. m) (omega arith);
       room = record {
@@ -75,8 +73,7 @@ pub returns-clause-linking : goal.returns-clause-linking
 returns-clause-linking c =
     let order : List ℕ = c.self.inside.order.items in
     let places : List ℕ = c.self.inside.places.items in
-    let len : length order ≡ length c.args.self.now.lines =
-    sym (length-map order (line_at c.self.inside.entries.items)) ∙ ap (λ (v : IndexLists). length v.lines) c.self.view_is in
+    let len = order_length c.self.inside c.args.self.now c.self.view_is in
     let upper : c.args.upper < length order = omega (arith, len, c.requires.upper) in
     let lower : c.args.lower < length order = omega (arith, len, c.requires.lower) in
     let u : place_in places c.read-upper.result ≡ c.args.upper =

@@ -1,19 +1,18 @@
-use Rattle.std.proofs.Common.{◌≡◌, ◌<◌, ℕ, List, length, sym, ap, subst, ◌∙◌, arith, set}
-use Rattle.std.proofs.Math.ListN.{length-map}
+use Rattle.std.proofs.Common.{◌≡◌, ◌<◌, ℕ, List, length, sym, subst, arith, set}
 use Rattle.dl_net.specs.Tables.{drop_item}
 use Rattle.dl_net.specs.Lines.{IndexLists, list_of}
-use Rattle.dl_net.specs.Indexes.{line_at, by_place}
+use Rattle.dl_net.specs.Indexes.{by_place}
 use Rattle.dl_net.proofs.TakeLemmas.{HasLinks-drop, by_place-drop}
+use Rattle.dl_net.proofs.OrderLemmas.{order_length}
 use Rattle.dl_net.proofs.index.Index.take_link.Goals as goal
 
 pub invariant_of-self : goal.invariant_of-self
 invariant_of-self c =
     let order : List ℕ = c.self.inside.order.items in
-    let len : length order ≡ length c.args.self.now.lines =
-    sym (length-map order (line_at c.self.inside.entries.items)) ∙ ap (λ (v : IndexLists). length v.lines) c.self.view_is in
+    let len = order_length c.self.inside c.args.self.now c.self.view_is in
     record {
       rules = c.self.invariant.rules;
-      links = HasLinks-drop (length c.self.inside.entries.items) order c.self.inside.lowers c.self.inside.uppers c.remove.new.self c.remove-2.new.self
+      links = HasLinks-drop (length c.self.inside.lines.items) order c.self.inside.lowers c.self.inside.uppers c.remove.new.self c.remove-2.new.self
           c.read-upper.result c.read-lower.result c.self.invariant.links
           c.remove.ensures.lists
           c.remove-2.ensures.lists;
@@ -24,8 +23,7 @@ pub returns-clause-lowers : goal.returns-clause-lowers
 returns-clause-lowers c =
     let order : List ℕ = c.self.inside.order.items in
     let places : List ℕ = c.self.inside.places.items in
-    let len : length order ≡ length c.args.self.now.lines =
-    sym (length-map order (line_at c.self.inside.entries.items)) ∙ ap (λ (v : IndexLists). length v.lines) c.self.view_is in
+    let len = order_length c.self.inside c.args.self.now c.self.view_is in
     let lu : c.args.upper < length order = omega (arith, len, c.requires.upper) in
     let ll : c.args.lower < length order = omega (arith, len, c.requires.lower) in
     subst (λ (v : IndexLists). by_place order places c.remove.new.self ≡ set v.lowers c.args.upper (drop_item c.args.lower (list_of v.lowers c.args.upper))) c.self.view_is
@@ -38,8 +36,7 @@ pub returns-clause-uppers : goal.returns-clause-uppers
 returns-clause-uppers c =
     let order : List ℕ = c.self.inside.order.items in
     let places : List ℕ = c.self.inside.places.items in
-    let len : length order ≡ length c.args.self.now.lines =
-    sym (length-map order (line_at c.self.inside.entries.items)) ∙ ap (λ (v : IndexLists). length v.lines) c.self.view_is in
+    let len = order_length c.self.inside c.args.self.now c.self.view_is in
     let lu : c.args.upper < length order = omega (arith, len, c.requires.upper) in
     let ll : c.args.lower < length order = omega (arith, len, c.requires.lower) in
     subst (λ (v : IndexLists). by_place order places c.remove-2.new.self ≡ set v.uppers c.args.lower (drop_item c.args.upper (list_of v.uppers c.args.lower))) c.self.view_is

@@ -12,5 +12,4 @@ returns c =
     subst (λ (v : IndexLists). c.count.result ≡ length (places uses_row v.lines c.args.number)) c.self.view_is
     (c.count.ensures
     ∙ sym (length-map (list_at c.self.inside.uses c.args.number) (place_in c.self.inside.places.items))
-    ∙ ap length (uses_are c.self.inside.entries.items c.self.inside.order.items c.self.inside.places.items c.self.inside.heads c.self.inside.uses
-    c.self.invariant.rules c.args.number))
+    ∙ ap length (uses_are c.self.invariant.rules c.args.number))

@@ -1,7 +1,5 @@
 use Rattle.std.proofs.Common.{length, sym, ap, ◌∙◌, arith}
-use Rattle.dl_net.specs.Counting.{each_once}
-use Rattle.dl_net.specs.Lines.{Line, no_line, uses_row}
-use Rattle.dl_net.proofs.OnceLemmas.{each_once_shorter}
+use Rattle.dl_net.specs.Lines.{no_line, uses_row}
 use Rattle.dl_net.proofs.RowLemmas.{row_past, row_in}
 use Rattle.dl_net.proofs.index.Index.width.Goals as goal
 
@@ -10,10 +8,4 @@ returns-then-rule-len-clause-width c = sym (ap length (row_past uses_row c.args.
 
 pub returns-clause-width : goal.returns-clause-width
 returns-clause-width c =
-    ap length (c.each_once.ensures ∙ c.entry.ensures.once)
-    ∙ ap (λ (l : Line). length (each_once l.body)) c.entry.ensures.line
-    ∙ sym (ap length (row_in uses_row c.args.self.now.lines c.args.rule no_line (omega arith)))
-
-pub returns-clause-few : goal.returns-clause-few
-returns-clause-few c =
-    omega (arith, ap length (c.each_once.ensures ∙ c.entry.ensures.once), each_once_shorter c.entry.result.now.body.items, c.entry.ensures.short)
+    ap length c.each_once.ensures.numbers ∙ sym (ap length (row_in uses_row c.args.self.now.lines c.args.rule no_line (omega arith)))

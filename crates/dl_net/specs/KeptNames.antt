@@ -1,0 +1,13 @@
+-- How the fields of the names hold their literals.
+use Rattle.std.specs.Prelude.{◌≤◌, ◌^◌, length}
+use Rattle.dl_base.specs.Paths.{IsDistinct}
+use Rattle.dl_lit.specs.Names.{Numbering}
+use Rattle.dl_net.specs.declared.names.PairedNames.TheInside.{Inside}
+use Rattle.dl_net.specs.Pairs.{pairs_of}
+
+abbrev pub numbering_of : Inside → Numbering
+numbering_of n = record { literals = pairs_of n.pairs.keys; frozen = n.frozen }
+
+pub record IsKeptNames (n : Inside) : Type 0 where
+  pub distinct : IsDistinct (pairs_of n.pairs.keys)
+  pub few : length n.pairs.keys ≤ 2 ^ 31

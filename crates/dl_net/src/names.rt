@@ -1,0 +1,160 @@
+//! Numbers of literals.
+
+ghost use Rattle.std.specs.Prelude.{◌≡◌, ◌<◌, ◌+◌, ◌*◌, ◌^◌, ◌++◌, ◌∷◌, [], Some, false, IfOk, IfSome, IfNone, OnOk, OnErr, IsTrue, Contains, length, position, slice_get};
+ghost use Rattle.std.specs.Option.{option_copied};
+ghost use Rattle.dl_base.specs.Paths.{IsDistinct};
+ghost use Rattle.dl_lit.specs.Literal.{literal_eq, complement};
+ghost use Rattle.dl_lit.specs.Names.{no_names, with_both};
+ghost use Rattle.dl_net.specs.Named.{IsPaired};
+ghost use Rattle.dl_net.specs.Pairs.{pairs_of};
+
+use crate::both::Both;
+use dl_base::Memory;
+use dl_lit::Literal;
+use indexmap::IndexSet;
+use std::alloc::Global;
+use std::marker::Model;
+
+/// As many pairs as have numbers of 32 bits.
+const PAIR_LIMIT: usize = 0x8000_0000;
+
+/// Literals by number, each beside its complement. One look-up finds both.
+#[derive(Drop)]
+pub(crate) struct PairedNames {
+    /// Each pair, found by its mode and atom whatever the sign.
+    pairs: IndexSet<Both>,
+    frozen: bool,
+}
+
+impl Model for PairedNames {
+    ghost use Rattle.dl_lit.specs.Names.{Numbering};
+
+    ghost Value = { Numbering };
+
+    ghost use Rattle.dl_net.specs.KeptNames.{numbering_of, IsKeptNames};
+
+    ghost view = { numbering_of };
+
+    ghost invariant = { IsKeptNames };
+}
+
+impl PairedNames {
+    pub fn make(alloc: Global) -> PairedNames
+        ensures { result ≡ no_names }
+    {
+        PairedNames {
+            pairs: IndexSet::new(alloc),
+            frozen: false,
+        }
+    }
+
+    pub fn len(&self) -> usize
+        ensures len { result ≡ length self.now.literals }
+        ensures small { result < 2 ^ 63 }
+        ensures distinct { IsDistinct self.now.literals }
+        ensures paired { IsPaired self.now.literals }
+    {
+        2 * self.pairs.len()
+    }
+
+    /// The literal with this number.
+    pub fn literal(&self, number: usize) -> Option<&Literal>
+        ensures { option_copied result ≡ slice_get self.now.literals number }
+    {
+        match self.pairs.get_index(number / 2) {
+            None => None,
+            Some(both) => {
+                if number % 2 == 0 {
+                    Some(both.first())
+                } else {
+                    Some(both.second())
+                }
+            }
+        }
+    }
+
+    /// The number of a literal, if it has one.
+    pub fn find(&self, literal: &Literal) -> Option<usize>
+        ensures number { result ≡ position (literal_eq literal.now) self.now.literals }
+        ensures absent { IfNone result (¬ Contains self.now.literals literal.now) }
+        ensures small { IfSome result (λ n. n < 2 ^ 32) }
+        ensures distinct { IsDistinct self.now.literals }
+        ensures paired { IsPaired self.now.literals }
+    {
+        match self.pairs.get_full((&literal.mode, &literal.atom)) {
+            None => None,
+            Some((place, both)) => {
+                if both.first().positive == literal.positive {
+                    Some(2 * place)
+                } else {
+                    Some(2 * place + 1)
+                }
+            }
+        }
+    }
+
+    /// The number of a literal, which gets one beside its complement if it has none. Most have one, and cost one look-up and no copy.
+    pub fn number(&mut self, literal: &Literal) -> Result<usize, Memory>
+        ensures named { OnOk result (self.new.literals ≡ with_both self.old.literals literal.now) }
+        ensures number { IfOk result (λ n. position (literal_eq literal.now) self.new.literals ≡ Some n) }
+        ensures small { IfOk result (λ n. n < 2 ^ 32) }
+        ensures kept { OnErr result (self.new.literals ≡ self.old.literals) }
+        ensures same { Contains self.old.literals literal.now → self.new ≡ self.old }
+        ensures distinct { IsDistinct self.new.literals }
+        ensures paired { IsPaired self.new.literals }
+    {
+        match self.find(literal) {
+            Some(number) => Ok(number),
+            None => self.add(literal),
+        }
+    }
+
+    /// Numbers a literal that has no number, and its complement, or neither.
+    fn add(&mut self, literal: &Literal) -> Result<usize, Memory>
+        requires { ¬ Contains self.old.literals literal.now }
+        ensures added { OnOk result (self.new.literals ≡ self.old.literals ++ literal.now ∷ complement literal.now ∷ []) }
+        ensures number { IfOk result (λ n. n ≡ length self.old.literals) }
+        ensures small { IfOk result (λ n. n < 2 ^ 32) }
+        ensures kept { OnErr result (self.new.literals ≡ self.old.literals) }
+        ensures frozen { OnOk result (self.new.frozen ≡ false) }
+    {
+        let place = self.pairs.len();
+        if place >= PAIR_LIMIT {
+            return Err(Memory);
+        }
+        self.pairs.insert(Both::of(literal)?)?;
+        self.frozen = false;
+        Ok(2 * place)
+    }
+
+    /// From here on the names can be shared.
+    pub fn freeze(&mut self) -> Result<(), Memory>
+        ensures literals { self.new.literals ≡ self.old.literals }
+        ensures frozen { OnOk result (IsTrue self.new.frozen) }
+    {
+        self.frozen = true;
+        Ok(())
+    }
+
+    /// The same literals at the same numbers once more, frozen.
+    pub fn share(&self) -> Result<PairedNames, Memory>
+        requires { IsTrue self.now.frozen }
+        ensures { IfOk result (λ names. names ≡ self.now) }
+    {
+        let mut names = copied(*self.pairs.allocator(), self.pairs.as_slice())?;
+        names.frozen = true;
+        Ok(names)
+    }
+}
+
+/// The names of these pairs.
+fn copied(alloc: Global, pairs: &[Both]) -> Result<PairedNames, Memory>
+    requires { IsDistinct (pairs_of pairs.now) }
+    ensures { IfOk result (λ names. names.literals ≡ pairs_of pairs.now) }
+{
+    let mut names = PairedNames::make(alloc);
+    for both in pairs {
+        names.add(both.first())?;
+    }
+    Ok(names)
+}
