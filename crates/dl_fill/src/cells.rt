@@ -55,6 +55,13 @@ impl Cells {
         self.words.len()
     }
 
+    /// No flag, and the number 0, at each place.
+    pub(crate) fn clear(&mut self)
+        ensures { self.new ≡ record { flags = replicate (length self.old.flags) false; numbers = replicate (length self.old.flags) 0 } }
+    {
+        self.words.as_mut_slice().fill(0);
+    }
+
     /// The flag at a place.
     pub(crate) fn flag(&self, place: usize) -> bool
         requires { place < length self.now.flags }

@@ -12,6 +12,9 @@ use std::marker::Model;
 /// No more nodes than a cell tells apart.
 const MOST_NODES: usize = 0x8000_0000;
 
+/// One node of so many in the queue makes it crowded.
+const CROWD: usize = 16;
+
 /// How many hits each node still waits for, and the nodes that wait no more, in order. A node takes four bytes.
 #[derive(Drop)]
 pub struct Counters {
@@ -111,6 +114,22 @@ impl Counters {
         ensures queue { self.new.queue ≡ [] }
     {
         unlink(&mut self.cells, self.first, self.len);
+        self.len = 0;
+    }
+
+    /// Whether so many nodes have fired that clearing all nodes costs less than going along the queue.
+    pub fn is_crowded(&self) -> bool {
+        self.len >= self.cells.len() / CROWD
+    }
+
+    /// No node waits, and none stands in the queue. It costs a word of memory for each node there is room for.
+    pub fn clear(&mut self)
+        ensures need { self.new.need ≡ replicate (length self.old.need) 0 }
+        ensures queue { self.new.queue ≡ [] }
+    {
+        self.cells.clear();
+        self.first = 0;
+        self.last = 0;
         self.len = 0;
     }
 

@@ -37,8 +37,19 @@ fn touch_against(net: &Net, number: usize, rules: &mut Region)
     }
 }
 
-/// Makes the rules those for the members of the region and those against them.
-pub fn touch(net: &Net, region: &Region, rules: &mut Region)
+/// Adds all rules, in the order of the list, in which memory is read fastest.
+fn touch_all(net: &Net, rules: &mut Region)
+    requires room { length net.now.theory.rules ≤ rules.old.bound }
+    ensures there { (r : ℕ) → r < length net.now.theory.rules → 0 < times r rules.new.members }
+    ensures bound { rules.new.bound ≡ rules.old.bound }
+{
+    for rule in 0..net.rules_len() {
+        rules.put(rule);
+    }
+}
+
+/// Adds the rules for the members of the region and those against them.
+fn touch_members(net: &Net, region: &Region, rules: &mut Region)
     requires bound { region.now.bound ≡ length net.now.names }
     requires room { length net.now.theory.rules ≤ rules.old.bound }
     ensures touches { Touches net.now region.now.members rules.new.members }
@@ -51,5 +62,19 @@ pub fn touch(net: &Net, region: &Region, rules: &mut Region)
         touch_heads(net, number, rules);
         touch_against(net, number, rules);
         at += 1;
+    }
+}
+
+/// Makes the rules those for the members of the region and those against them. Where each literal is a member, so is each rule.
+pub fn touch(net: &Net, region: &Region, rules: &mut Region)
+    requires bound { region.now.bound ≡ length net.now.names }
+    requires room { length net.now.theory.rules ≤ rules.old.bound }
+    ensures touches { Touches net.now region.now.members rules.new.members }
+    ensures bound { rules.new.bound ≡ rules.old.bound }
+{
+    if region.len() == net.names() {
+        touch_all(net, rules);
+    } else {
+        touch_members(net, region, rules);
     }
 }

@@ -161,26 +161,24 @@ pub fn solve<G: Gates>(
     run(net, width, wires, counters);
 }
 
-/// Leaves the counters clean, at the cost of what the region touches.
-pub fn tidy(
+/// Leaves the counters clean, node by node of what the region touches.
+fn tidy_touched(
     net: &Net,
     width: usize,
     literals: usize,
     marks: &Marks,
     region: &Region,
-    rules: &mut Region,
+    rules: &Region,
     counters: &mut Counters,
 )
     requires width { literals < width }
-    requires size { length counters.old.need ≡ rules.old.bound * width }
-    requires names { length net.now.names ≤ rules.old.bound }
+    requires size { length counters.old.need ≡ rules.now.bound * width }
+    requires names { length net.now.names ≤ rules.now.bound }
     requires bound { region.now.bound ≡ length net.now.names }
     requires room { length net.now.names ≤ places marks.now }
-    requires idle { (y : ℕ) → times y (all_nodes width 0 literals region.now.members) ≡ 0 → times y (all_nodes width literals (width - literals) rules.old.members) ≡ 0 → slice_index counters.old.need y ≡ 0 }
+    requires idle { (y : ℕ) → times y (all_nodes width 0 literals region.now.members) ≡ 0 → times y (all_nodes width literals (width - literals) rules.now.members) ≡ 0 → slice_index counters.old.need y ≡ 0 }
     ensures clean { IsClean counters.new }
-    ensures none { rules.new.members ≡ [] }
     ensures size { length counters.new.need ≡ length counters.old.need }
-    ensures bound { rules.new.bound ≡ rules.old.bound }
 {
     let _len = region.len();
     let _touched = rules.len();
@@ -208,6 +206,34 @@ pub fn tidy(
         rules,
         counters,
     );
-    rules.clear();
     counters.drain();
+}
+
+/// Leaves the counters clean, at the cost of what the region touches. Where a good part of all nodes have fired, all are cleared at once.
+pub fn tidy(
+    net: &Net,
+    width: usize,
+    literals: usize,
+    marks: &Marks,
+    region: &Region,
+    rules: &mut Region,
+    counters: &mut Counters,
+)
+    requires width { literals < width }
+    requires size { length counters.old.need ≡ rules.old.bound * width }
+    requires names { length net.now.names ≤ rules.old.bound }
+    requires bound { region.now.bound ≡ length net.now.names }
+    requires room { length net.now.names ≤ places marks.now }
+    requires idle { (y : ℕ) → times y (all_nodes width 0 literals region.now.members) ≡ 0 → times y (all_nodes width literals (width - literals) rules.old.members) ≡ 0 → slice_index counters.old.need y ≡ 0 }
+    ensures clean { IsClean counters.new }
+    ensures none { rules.new.members ≡ [] }
+    ensures size { length counters.new.need ≡ length counters.old.need }
+    ensures bound { rules.new.bound ≡ rules.old.bound }
+{
+    if counters.is_crowded() {
+        counters.clear();
+    } else {
+        tidy_touched(net, width, literals, marks, region, rules, counters);
+    }
+    rules.clear();
 }

@@ -1,6 +1,6 @@
 use Rattle.std.proofs.Common.{◌≡◌, ◌-◌, ◌≤◌, length, take}
 use Rattle.dl_fill.specs.Touched.{Touches}
-use Rattle.dl_fill.proofs.touch.touch.Given as goal
+use Rattle.dl_fill.proofs.touch.touch_members.Given as goal
 
 abbrev pub invariant-loop-at : goal.invariant-loop-at
 invariant-loop-at l = record {
