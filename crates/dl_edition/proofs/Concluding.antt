@@ -1,6 +1,6 @@
 -- What right marks say of literals, one by one.
-use Rattle.std.proofs.Common.{◌≡◌, ◌∙◌, ℕ, ◌<◌, ◌≤◌, Bool, true, false, List, length, map, refl, sym, subst, arith, if◌then◌else◌}
-use Rattle.std.specs.Prelude.{All, Decides}
+use Rattle.std.proofs.Common.{ℕ, ◌<◌, ◌≤◌, Bool, true, false, List, length, map, refl, sym, subst, arith, if◌then◌else◌}
+use Rattle.std.specs.Prelude.{Decides}
 use Rattle.std.proofs.lemmas.List.Elements.{All-map, All-weaker}
 use Rattle.std.proofs.lemmas.Simd.{map-map}
 use Rattle.dl_lit.specs.declared.literal.Literal.{Literal}

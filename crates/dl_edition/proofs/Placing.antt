@@ -1,29 +1,32 @@
--- Placed literals, sorted, give the order of the literals.
-use Rattle.std.proofs.Common.{◌≡◌, ◌≢◌, ◌∙◌, ℕ, ◌+◌, ◌<◌, suc, List, [], ◌∷◌, ◌++◌, length, map, get_or, inl, inr, false, true≢false, eqb, refl, sym, ap, subst, arith}
-use Rattle.std.specs.Prelude.{All, AllPairs, Contains}
-use Rattle.std.specs.List.{IsDistinct}
+-- Positive literals, sorted, and after each its complement give the order of the literals.
+use Rattle.std.proofs.Common.{◌≡◌, ◌≢◌, ◌∙◌, ℕ, ◌+◌, ◌<◌, true, List, [], ◌∷◌, ◌++◌, length, map, get_or, inl, inr, false, true≢false, eqb, refl, sym, ap, subst, arith}
+use Rattle.std.specs.Prelude.{not, All, AllPairs, Contains}
+use Rattle.std.specs.List.{IsDistinct, flat_map}
 use Rattle.std.specs.List.Sorted.{IsPermutation, IsSorted}
 use Rattle.std.specs.Option.{option_cmp}
 use Rattle.std.specs.Ordering.{is_lt, nat_cmp, bool_cmp, ordering_reverse, ordering_then}
 use Rattle.std.specs.declared.cmp.Ordering.{Ordering}
 use Rattle.std.specs.declared.cmp.Ordering.TheVariants.{Less, Equal, Greater}
 use Rattle.std.specs.Cmp.{nat_eq_equiv}
-use Rattle.std.proofs.lemmas.Bool.{cases_eq, cases_order, eqb-false, ne_eqb}
+use Rattle.std.proofs.lemmas.Bool.{cases_Bool, cases_eq, cases_order, eqb-false, ne_eqb}
 use Rattle.std.proofs.lemmas.Cmp.{tied_itself, nat_cmp_total}
 use Rattle.std.proofs.lemmas.List.{map-append, get_or_default}
-use Rattle.std.proofs.lemmas.List.Elements.{All-push, All-weaker, All-map, Contains-push, Contains-append_left}
-use Rattle.std.proofs.lemmas.List.Kept.{AllPairs-cons}
+use Rattle.std.proofs.lemmas.List.Elements.{All-nil, All-cons, All-head, All-tail, All-push, All-weaker, All-map, All-contains, Contains-push, Contains-append_left}
 use Rattle.std.proofs.lemmas.List.Quantifiers.{all_pairs_push}
-use Rattle.std.proofs.lemmas.List.Sorted.{All-permutation, Contains-permutation, IsPermutation-map, ranks_by, sorted_far}
+use Rattle.std.proofs.lemmas.List.Sorted.{All-permutation, Contains-permutation, ranks_by, sorted_far}
 use Rattle.std.proofs.lemmas.Map.Keys.{IsDistinct-from_apart, IsDistinct-IsPermutation, apart_from_distinct}
-use Rattle.dl_base.proofs.Members.{Contains-mapped}
+use Rattle.dl_base.proofs.Members.{Contains-mapped, mapped_from}
 use Rattle.dl_lit.specs.declared.literal.Literal.{Literal}
+use Rattle.dl_lit.specs.Literal.{complement}
 use Rattle.dl_lit.specs.Order.{bytes_cmp, literal_cmp, literal_total, exact_literals}
-use Rattle.dl_theory.specs.Listings.{Mentions}
-use Rattle.dl_net.specs.Numbers.{NetLists, IsNumbered, no_literal, literal_at, number}
+use Rattle.dl_theory.specs.Listings.{Mentions, AreLiterals}
+use Rattle.dl_theory.proofs.Closure.{complement_twice, mentions_complement}
+use Rattle.dl_net.specs.Numbers.{NetLists, IsNumbered, no_literal, literal_at, number, number_of_other}
+use Rattle.dl_net.proofs.FindLemmas.{other_finds}
 use Rattle.dl_edition.specs.declared.placed.Placed.{Placed}
 use Rattle.dl_edition.specs.Orders.{IsOrder}
-use Rattle.dl_edition.specs.Placing.{IsPlaced, ArePlaced, placed_cmp, placed_total}
+use Rattle.dl_edition.specs.Placing.{IsPlaced, ArePlaced, placed_cmp, placed_total, pair_numbers}
+use Rattle.dl_edition.proofs.Pairing.{both, all_both, in_order_both, has_both, pairs_map}
 use Rattle.dl_edition.proofs.Prefixes.{less, less_by_prefix, name_bytes}
 
 module _ (N : NetLists) (i : ℕ) (list : List Placed) (h : ArePlaced N i list) where
@@ -33,20 +36,21 @@ module _ (N : NetLists) (i : ℕ) (list : List Placed) (h : ArePlaced N i list) 
     below = All-push (λ q. q.number < i + 1) list p
         (All-weaker (λ q. q.number < i) (λ q. q.number < i + 1) (λ q lt. omega (arith, lt)) list h.below) (omega (arith, is));
     rising = all_pairs_push (λ q r. q.number < r.number) list p h.rising (λ k d lt. omega (arith, is, h.below k d lt));
-    complete = λ k lt m. subst (λ (ns : List ℕ). Contains ns k) (sym (map-append (λ q. q.number) list (p ∷ []))) (elim (cases_eq k i) [
+    complete = λ k lt up m. subst (λ (ns : List ℕ). Contains ns k) (sym (map-append (λ q. q.number) list (p ∷ []))) (elim (cases_eq k i) [
       | inl e ↦ subst (λ (n : ℕ). Contains (map (λ q. q.number) list ++ p.number ∷ []) n) (is ∙ sym e) (Contains-push (map (λ q. q.number) list) p.number)
-      | inr apart ↦ Contains-append_left (map (λ q. q.number) list) (p.number ∷ []) k (h.complete k (omega (arith, lt, apart)) m)
+      | inr apart ↦ Contains-append_left (map (λ q. q.number) list) (p.number ∷ []) k (h.complete k (omega (arith, lt, apart)) up m)
     ]);
   })
 
-  pub none_more : (¬ Mentions N.theory (literal_at N i)) → ArePlaced N (i + 1) list
+  pub none_more : ((literal_at N i).positive ≡ true → ¬ Mentions N.theory (literal_at N i)) → ArePlaced N (i + 1) list
   none_more dead = record {
     each = h.each;
     below = All-weaker (λ q. q.number < i) (λ q. q.number < i + 1) (λ q lt. omega (arith, lt)) list h.below;
     rising = h.rising;
-    complete = λ k lt m. elim (cases_eq k i) [
-      | inl e ↦ absurd (dead (subst (λ (x : ℕ). Mentions N.theory (literal_at N x)) e m))
-      | inr apart ↦ h.complete k (omega (arith, lt, apart)) m
+    complete = λ k lt up m. elim (cases_eq k i) [
+      | inl e ↦
+          absurd (dead (sym (ap (λ (x : ℕ). (literal_at N x).positive) e) ∙ up) (subst (λ (x : ℕ). Mentions N.theory (literal_at N x)) e m))
+      | inr apart ↦ h.complete k (omega (arith, lt, apart)) up m
     ];
   }
 
@@ -79,17 +83,33 @@ module _ (N : NetLists) (numbered : IsNumbered N) where
         (omega (arith, above, is.prefix_is, are.prefix_is)))
   ]
 
--- pairs of images are images of pairs
-pairs_map : {X Y : Type 0} (R : Y → Y → Type 0) (f : X → Y) (xs : List X) → AllPairs (λ x y. R (f x) (f y)) xs → AllPairs R (map f xs)
-pairs_map R f [] h = λ i j d lt within. absurd (omega (arith, within))
-pairs_map R f (x ∷ xs) h =
-    AllPairs-cons R (f x) (map f xs) (All-map (R (f x)) f xs (λ k d lt. h 0 (suc k) d (omega arith) (omega (arith, lt))))
-    (pairs_map R f xs (λ i j d lt within. h (suc i) (suc j) d (omega (arith, lt)) (omega (arith, within))))
+-- both numbers of each pair stand for its literals
+module _ (N : NetLists) (numbered : IsNumbered N) where
+  within_pairs : (ps : List Placed) → All (IsPlaced N) ps → All (λ n. n < length N.names) (flat_map (pair_numbers N) ps)
+  within_pairs [] h = All-nil (λ n. n < length N.names)
+  within_pairs (p ∷ ps) h =
+      let P = λ (n : ℕ). n < length N.names in
+      let is = All-head (IsPlaced N) p ps h in
+      All-cons P p.number (number_of_other N p.number ∷ flat_map (pair_numbers N) ps) is.within
+      (All-cons P (number_of_other N p.number) (flat_map (pair_numbers N) ps) (other_finds N numbered p.number is.within).0
+      (within_pairs ps (All-tail (IsPlaced N) p ps h)))
+
+  literals_of_pairs : (ps : List Placed) → All (IsPlaced N) ps
+      → map (literal_at N) (flat_map (pair_numbers N) ps) ≡ flat_map both (map (λ p. p.literal.now) ps)
+  literals_of_pairs [] h = refl
+  literals_of_pairs (p ∷ ps) h =
+      let is = All-head (IsPlaced N) p ps h in
+      let other : literal_at N (number_of_other N p.number) ≡ complement p.literal.now =
+      (other_finds N numbered p.number is.within).1 ∙ ap complement (sym is.literal) in
+      λ i. sym is.literal i ∷ other i ∷ literals_of_pairs ps (All-tail (IsPlaced N) p ps h) i
 
 module _ (N : NetLists) (list sorted : List Placed) (numbered : IsNumbered N) (h : ArePlaced N (length N.names) list)
     (moved : IsPermutation list sorted) (up : IsSorted placed_cmp sorted) where
   each : All (IsPlaced N) sorted
   each = All-permutation (IsPlaced N) list sorted moved h.each
+
+  pub numbers_within : All (λ p. p.number < length N.names) sorted
+  numbers_within = All-weaker (IsPlaced N) (λ p. p.number < length N.names) (λ p is. is.within) sorted each
 
   distinct : IsDistinct (λ p q. eqb p.number q.number) sorted
   distinct =
@@ -97,33 +117,55 @@ module _ (N : NetLists) (list sorted : List Placed) (numbered : IsNumbered N) (h
       (IsDistinct-from_apart (λ p q. eqb p.number q.number) list
       (λ i j d lt within. ne_eqb (get_or list i d).number (get_or list j d).number (λ e. omega (arith, e, h.rising i j d lt within))))
 
-  in_order : AllPairs (λ p q. literal_cmp (literal_at N p.number) (literal_at N q.number) ≡ Less) sorted
+  in_order : AllPairs (λ p q. literal_cmp p.literal.now q.literal.now ≡ Less) sorted
   in_order = λ i j d lt within.
       let p = get_or sorted i d in
       let q = get_or sorted j d in
-      let is = each i d (omega (arith, lt, within)) in
-      let are = each j d within in
       let apart = eqb-false p.number q.number (apart_from_distinct (λ x y. eqb x.number y.number) sorted i j d distinct lt within) in
       let later = sorted_far (λ x y. is_lt (placed_cmp x y)) (ranks_by placed_total (λ x. x)) sorted up i j d (omega (arith, lt)) within in
-      ap (λ x. literal_cmp x (literal_at N q.number)) (sym is.literal) ∙ ap (literal_cmp p.literal.now) (sym are.literal) ∙ before N numbered p q is are apart later
+      before N numbered p q (each i d (omega (arith, lt, within))) (each j d within) apart later
 
-  pub ordered : (numbers : List ℕ) → numbers ≡ map (λ p. p.number) sorted → IsOrder N numbers
+  abbrev positives : List Literal
+  positives = map (λ p. p.literal.now) sorted
+
+  abbrev literals : List Literal
+  literals = flat_map both positives
+
+  -- each positive literal that is mentioned is among them
+  there : (q : Literal) → q.positive ≡ true → Mentions N.theory q → Contains positives q
+  there q positive m =
+      let at = numbered.mentioned q m in
+      let is : literal_at N at.0 ≡ q = get_or_default N.names at.0 no_literal q at.1 ∙ at.2 in
+      let found = mapped_from (λ p. p.number) list at.0
+      (h.complete at.0 at.1 (ap (λ (x : Literal). x.positive) is ∙ positive) (subst (λ (x : Literal). Mentions N.theory x) (sym is) m)) in
+      let p = found.0 in
+      let in_sorted = Contains-permutation list sorted p moved found.1 in
+      subst (λ (x : Literal). Contains positives x)
+      ((All-contains (IsPlaced N) sorted p each in_sorted).literal ∙ ap (literal_at N) found.2 ∙ is)
+      (Contains-mapped (λ p. p.literal.now) sorted p in_sorted)
+
+  complete : (q : Literal) → Mentions N.theory q → Contains literals q
+  complete q m = elim (cases_Bool q.positive) [
+    | inl positive ↦ (has_both positives q (there q positive m)).0
+    | inr negative ↦
+        subst (λ (x : Literal). Contains literals x) (complement_twice q)
+        (has_both positives (complement q) (there (complement q) (ap not negative) (mentions_complement N.theory q m))).1
+  ]
+
+  listed : AreLiterals N.theory literals
+  listed = record {
+    in_order = in_order_both positives
+        (All-map (λ q. q.positive ≡ true) (λ p. p.literal.now) sorted (All-weaker (IsPlaced N) (λ p. p.literal.now.positive ≡ true) (λ p is. is.positive) sorted each))
+        (pairs_map (λ q r. literal_cmp q r ≡ Less) (λ p. p.literal.now) sorted in_order);
+    sound = all_both (Mentions N.theory) positives
+        (All-map (λ q. Mentions N.theory q × Mentions N.theory (complement q)) (λ p. p.literal.now) sorted
+        (All-weaker (IsPlaced N) (λ p. Mentions N.theory p.literal.now × Mentions N.theory (complement p.literal.now))
+        (λ p is. (is.mentioned, mentions_complement N.theory p.literal.now is.mentioned)) sorted each));
+    complete = complete;
+  }
+
+  pub ordered : (numbers : List ℕ) → numbers ≡ flat_map (pair_numbers N) sorted → IsOrder N numbers
   ordered numbers are = subst (λ (ns : List ℕ). IsOrder N ns) (sym are) (record {
-    within = All-map (λ n. n < length N.names) (λ p. p.number) sorted
-        (All-weaker (IsPlaced N) (λ p. p.number < length N.names) (λ p is. is.within) sorted each);
-    listed = record {
-      in_order = pairs_map (λ q r. literal_cmp q r ≡ Less) (literal_at N) (map (λ p. p.number) sorted)
-          (pairs_map (λ m n. literal_cmp (literal_at N m) (literal_at N n) ≡ Less) (λ p. p.number) sorted in_order);
-      sound = All-map (Mentions N.theory) (literal_at N) (map (λ p. p.number) sorted)
-          (All-map (λ n. Mentions N.theory (literal_at N n)) (λ p. p.number) sorted
-          (All-weaker (IsPlaced N) (λ p. Mentions N.theory (literal_at N p.number))
-          (λ p is. subst (λ (q : Literal). Mentions N.theory q) is.literal is.mentioned) sorted each));
-      complete = λ q m.
-          let at = numbered.mentioned q m in
-          let is : literal_at N at.0 ≡ q = get_or_default N.names at.0 no_literal q at.1 ∙ at.2 in
-          let there = h.complete at.0 at.1 (subst (λ (x : Literal). Mentions N.theory x) (sym is) m) in
-          subst (λ (x : Literal). Contains (map (literal_at N) (map (λ p. p.number) sorted)) x) is
-          (Contains-mapped (literal_at N) (map (λ p. p.number) sorted) at.0
-          (Contains-permutation (map (λ p. p.number) list) (map (λ p. p.number) sorted) at.0 (IsPermutation-map (λ p. p.number) list sorted moved) there));
-    };
+    within = within_pairs N numbered sorted each;
+    listed = subst (λ (qs : List Literal). AreLiterals N.theory qs) (sym (literals_of_pairs N numbered sorted each)) listed;
   })

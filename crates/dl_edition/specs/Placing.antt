@@ -1,12 +1,12 @@
 -- Literals of a net with their numbers, and the order in which they are sorted.
-use Rattle.std.specs.Prelude.{◌≡◌, ℕ, ◌+◌, ◌*◌, ◌<◌, zero, suc, IsTrue, List, All, AllPairs, Contains, length, map, slice_index_or}
+use Rattle.std.specs.Prelude.{◌≡◌, ℕ, ◌+◌, ◌*◌, ◌<◌, zero, suc, true, IsTrue, List, [], ◌∷◌, All, AllPairs, Contains, length, map, slice_index_or}
 use Rattle.std.specs.declared.cmp.Ordering.{Ordering}
 use Rattle.std.specs.Ordering.{on, then_cmp, nat_cmp}
 use Rattle.std.specs.Cmp.{IsTotalOrder, then_total, on_total, nat_cmp_total}
 use Rattle.dl_lit.specs.Name.{is_name}
 use Rattle.dl_lit.specs.Order.{literal_cmp, literal_total}
 use Rattle.dl_theory.specs.Listings.{Mentions}
-use Rattle.dl_net.specs.Numbers.{NetLists, literal_at}
+use Rattle.dl_net.specs.Numbers.{NetLists, literal_at, number_of_other}
 use Rattle.dl_edition.specs.declared.placed.Placed.{Placed}
 
 -- the first n bytes as one number, the first byte highest, with zeros where there are fewer
@@ -21,17 +21,22 @@ placed_cmp = then_cmp (on (λ p. p.prefix) nat_cmp) (on (λ p. p.literal.now) li
 pub placed_total : IsTotalOrder placed_cmp
 placed_total = then_total (on_total (λ p. p.prefix) nat_cmp_total) (on_total (λ p. p.literal.now) literal_total)
 
--- a literal that the theory mentions, under its number and with the prefix of its atom
+-- a positive literal that the theory mentions, under its number and with the prefix of its atom
 pub record IsPlaced (N : NetLists) (p : Placed) : Type 0 where
   pub within : p.number < length N.names
   pub literal : p.literal.now ≡ literal_at N p.number
+  pub positive : p.literal.now.positive ≡ true
   pub mentioned : Mentions N.theory p.literal.now
   pub prefix_is : p.prefix ≡ prefix 8 p.literal.now.atom
   pub spelled : IsTrue (is_name p.literal.now.atom)
 
--- the literals below a number that the theory mentions, in the order of their numbers
+-- the positive literals below a number that the theory mentions, in the order of their numbers
 pub record ArePlaced (N : NetLists) (n : ℕ) (list : List Placed) : Type 0 where
   pub each : All (IsPlaced N) list
   pub below : All (λ p. p.number < n) list
   pub rising : AllPairs (λ p q. p.number < q.number) list
-  pub complete : (k : ℕ) → k < n → Mentions N.theory (literal_at N k) → Contains (map (λ p. p.number) list) k
+  pub complete : (k : ℕ) → k < n → (literal_at N k).positive ≡ true → Mentions N.theory (literal_at N k) → Contains (map (λ p. p.number) list) k
+
+-- the number of a literal, and then that of its complement
+abbrev pub pair_numbers : NetLists → Placed → List ℕ
+pair_numbers N p = p.number ∷ number_of_other N p.number ∷ []

@@ -1,22 +1,24 @@
 //! The literals that a theory mentions, in order.
 
-ghost use Rattle.std.specs.Prelude.{◌≡◌, IfOk, length, map};
+ghost use Rattle.std.specs.Prelude.{◌≡◌, ◌<◌, IfOk, All, length};
+ghost use Rattle.std.specs.List.{flat_map};
 ghost use Rattle.dl_edition.specs.Orders.{IsOrder};
-ghost use Rattle.dl_edition.specs.Placing.{ArePlaced};
+ghost use Rattle.dl_edition.specs.Placing.{ArePlaced, pair_numbers};
 
 use crate::placed::{Placed, prefix_of};
 use dl_base::Memory;
 use dl_net::Net;
 use std::alloc::Global;
 
-/// The literals that the theory mentions, in the order of their numbers. The list borrows each, and copies none.
+/// The positive literals that the theory mentions, in the order of their numbers. Of a literal and its complement exactly one is
+/// positive, so each pair is listed once. The list borrows each literal, and copies none.
 fn placed(alloc: Global, net: &Net) -> Result<Vec<Placed<'_>>, Memory>
     ensures { IfOk result (λ list. ArePlaced net.now (length net.now.names) list.items) }
 {
-    let mut list = Vec::with_capacity(alloc, net.names())?;
+    let mut list = Vec::with_capacity(alloc, net.names() / 2)?;
     for number in 0..net.names() {
-        if net.lives(number) {
-            let literal = net.literal(number);
+        let literal = net.literal(number);
+        if literal.positive && net.lives(number) {
             let prefix = prefix_of(&literal.atom);
             list.push(Placed {
                 prefix,
@@ -28,13 +30,14 @@ fn placed(alloc: Global, net: &Net) -> Result<Vec<Placed<'_>>, Memory>
     Ok(list)
 }
 
-/// The numbers of these literals, one by one.
-fn numbers_of(alloc: Global, list: &[Placed<'_>]) -> Result<Vec<usize>, Memory>
-    ensures { IfOk result (λ numbers. numbers.items ≡ map (λ p. p.number) list.now) }
+/// The number of each of these literals, and after it that of its complement, which comes next in the order of literals.
+fn numbers_of(alloc: Global, net: &Net, list: &[Placed<'_>]) -> Result<Vec<usize>, Memory>
+    requires { All (λ p. p.number < length net.now.names) list.now }
+    ensures { IfOk result (λ numbers. numbers.items ≡ flat_map (pair_numbers net.now) list.now) }
 {
-    let mut numbers = Vec::with_capacity(alloc, list.len())?;
+    let mut numbers = Vec::with_capacity(alloc, list.len() * 2)?;
     for placed in list {
-        numbers.push(placed.number)?;
+        numbers.extend_from_slice(&[placed.number, net.other(placed.number)])?;
     }
     Ok(numbers)
 }
@@ -48,5 +51,5 @@ pub(crate) fn order_of(alloc: Global, net: &Net) -> Result<Vec<usize>, Memory>
     // Numbers stand for distinct literals, so nothing is listed twice.
     let _count = net.names();
     list.sort_unstable();
-    numbers_of(alloc, list.as_slice())
+    numbers_of(alloc, net, list.as_slice())
 }

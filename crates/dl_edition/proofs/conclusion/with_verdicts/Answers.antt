@@ -1,6 +1,5 @@
-use Rattle.std.proofs.Common.{◌≡◌, ◌∙◌, ℕ, ◌+◌, ◌<◌, List, [], ◌∷◌, ◌++◌, get_or, map, take, ap, sym}
-use Rattle.std.proofs.lemmas.List.{get_or_default, map-append, take_more}
-use Rattle.dl_net.specs.Numbers.{literal_at}
+use Rattle.std.proofs.Common.{◌≡◌, ◌∙◌, ℕ, List, [], ◌∷◌, ◌++◌, get_or, map, take, ap, sym}
+use Rattle.std.proofs.lemmas.List.{map-append, take_more}
 use Rattle.dl_edition.specs.declared.conclusion.Conclusion.{Conclusion}
 use Rattle.dl_edition.specs.Conclusions.{conclusion_at}
 use Rattle.dl_edition.proofs.conclusion.with_verdicts.Goals as goal

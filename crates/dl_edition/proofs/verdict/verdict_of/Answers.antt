@@ -1,9 +1,8 @@
-use Rattle.std.proofs.Common.{subst, sym, inl, ◌∙◌}
+use Rattle.std.proofs.Common.{subst, sym, inl}
 use Rattle.dl_lit.specs.declared.literal.Literal.{Literal}
 use Rattle.dl_theory.specs.declared.answer.Verdict.{Verdict}
 use Rattle.dl_theory.specs.Verdicts.{IsVerdict}
 use Rattle.dl_theory.proofs.Unmentioned.{refuted}
-use Rattle.dl_net.specs.Numbers.{literal_at}
 use Rattle.dl_edition.specs.Conclusions.{verdict_at}
 use Rattle.dl_edition.proofs.Concluding.{verdict_right}
 use Rattle.dl_edition.proofs.Literals.{found_at}
