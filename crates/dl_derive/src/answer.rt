@@ -12,14 +12,17 @@ use crate::back::back;
 use crate::copied::copied_marks;
 use crate::found::Found;
 use crate::part::part;
-use crate::unnumbered::refuted;
+use crate::unnumbered::unnumbered_answer;
 use crate::whole::certify_whole;
 use dl_base::Memory;
 use dl_lit::{Family, Literal};
 use dl_marks::Marks;
 use dl_net::Net;
-use dl_theory::{Answer, Certificate, Verdict};
+use dl_theory::Answer;
 use std::alloc::Global;
+
+/// A literal that is copied with its rules costs about as much as so many that are counted in place.
+const DEARER: usize = 4;
 
 /// The answer on a literal of the part that matters for some numbers, from a net of that part.
 fn certify_part(
@@ -74,7 +77,7 @@ fn certify_found(
     answer
 }
 
-/// The answer on a literal that has a number.
+/// The answer on a literal that has a number. Where a good part of the net matters for it, the net itself serves.
 fn certify_number(
     alloc: Global,
     net: &Net,
@@ -88,9 +91,12 @@ fn certify_number(
     requires literal { literal_at net.now number ≡ literal.now }
     ensures { IfOk result (Fits net.now.theory family literal.now) }
 {
-    let _names = net.names();
     let found = back(alloc, net, number)?;
-    let answer = certify_found(alloc, net, marks, &found, family, literal);
+    let answer = if found.len() < net.names() / DEARER {
+        certify_found(alloc, net, marks, &found, family, literal)
+    } else {
+        certify_whole(alloc, net, marks, family, literal)
+    };
     drop(found);
     answer
 }
@@ -112,12 +118,6 @@ pub fn certify(
             let answer = certify_number(alloc, net, marks, family, number, literal)?;
             Ok(answer)
         }
-        None => {
-            let steps = refuted(alloc, family, literal)?;
-            Ok(Answer {
-                verdict: Verdict::Refuted,
-                certificate: Certificate::Derivation(steps),
-            })
-        }
+        None => unnumbered_answer(alloc, net, family, literal),
     }
 }

@@ -16,7 +16,7 @@ use crate::block::block_steps;
 use crate::definite::definite_steps;
 use crate::gap::gap;
 use crate::pair::pair_steps;
-use crate::unnumbered::refuted;
+use crate::unnumbered::unnumbered_answer;
 use dl_base::Memory;
 use dl_lit::{Family, Literal, Tag};
 use dl_marks::Marks;
@@ -108,12 +108,6 @@ pub(crate) fn certify_whole(
             let answer = answer_at(alloc, net, marks, family, number)?;
             Ok(answer)
         }
-        None => {
-            let steps = refuted(alloc, family, literal)?;
-            Ok(Answer {
-                verdict: Verdict::Refuted,
-                certificate: Certificate::Derivation(steps),
-            })
-        }
+        None => unnumbered_answer(alloc, net, family, literal),
     }
 }

@@ -1,20 +1,6 @@
-use Rattle.std.proofs.Common.{List, inl, sym, subst, ◌∙◌}
-use Rattle.dl_lit.specs.declared.literal.Tagged.{Tagged}
-use Rattle.dl_theory.specs.declared.answer.Verdict.TheVariants.{Refuted}
-use Rattle.dl_theory.specs.declared.answer.Certificate.TheVariants as certificate
-use Rattle.dl_theory.specs.Listings.{Occurs}
-use Rattle.dl_theory.specs.Verdicts.{Fits}
+use Rattle.std.proofs.Common.{sym, ◌∙◌}
 use Rattle.dl_derive.proofs.Answered.{found}
-use Rattle.dl_derive.proofs.Absent.{refuted_fits}
 use Rattle.dl_derive.proofs.answer.certify.Goals as goal
 
 pub certify_number-requires-clause-literal : goal.certify_number-requires-clause-literal
 certify_number-requires-clause-literal c = (found c.args.net.now c.args.literal.now c.in-Some.number (sym c.find.ensures.number ∙ c.in-Some.is)).1
-
-pub returns-in_ok-steps-in-None : goal.returns-in_ok-steps-in-None
-returns-in_ok-steps-in-None c =
-    let absent : ¬ Occurs c.args.net.now.theory c.args.literal.now =
-    λ o. c.in-None.ensures.absent (c.names-names.ensures.numbered.mentioned c.args.literal.now (inl o)) in
-    subst
-    (λ (steps : List Tagged). Fits c.args.net.now.theory c.args.family c.args.literal.now (record { verdict = Refuted; certificate = certificate.Derivation steps }))
-    (sym c.in_ok-steps-in-None.ensures) (refuted_fits c.args.net.now.theory c.args.literal.now absent c.args.family)
