@@ -94,6 +94,7 @@ module _ (bound : ℕ) (words members : List ℕ) (room : ℕ) (kept : IsKeptReg
     one_more new now len bits larger = record {
       region = record { distinct = more_distinct; below = more_below };
       enough = omega (arith, kept.enough, larger);
+      few = kept.few;
       words_enough = omega (arith, kept.words_enough, len);
       bits = λ n. (
         λ there.

@@ -1,5 +1,5 @@
 -- Sets of numbers below a bound.
-use Rattle.std.specs.Prelude.{◌≡◌, ℕ, ◌*◌, ◌/◌, ◌%◌, ◌<◌, ◌≤◌, ◌==◌, ◌↔◌, Bool, true, List, All, Contains, length, slice_index_or}
+use Rattle.std.specs.Prelude.{◌≡◌, ℕ, ◌*◌, ◌/◌, ◌%◌, ◌^◌, ◌<◌, ◌≤◌, ◌==◌, ◌↔◌, Bool, true, List, All, Contains, length, slice_index_or}
 use Rattle.std.specs.Int.{bit_at}
 use Rattle.dl_base.specs.Paths.{IsDistinct}
 
@@ -16,9 +16,10 @@ pub record IsRegion (r : Numbers) : Type 0 where
 abbrev pub has : List ℕ → ℕ → Bool
 has words n = bit_at (slice_index_or words (n / 64) 0) (n % 64) == 1
 
--- how a region is kept: the bits are those of the members, and there is room for all numbers
+-- how a region is kept: the bits are those of the members, there is room for all numbers, and the bound has 32 bits
 pub record IsKeptRegion (bound : ℕ) (words members : List ℕ) (room : ℕ) : Type 0 where
   pub region : IsRegion (record { bound = bound; members = members })
   pub enough : bound ≤ room
+  pub few : bound < 2 ^ 32
   pub words_enough : bound ≤ 64 * length words
   pub bits : (n : ℕ) → (has words n ≡ true) ↔ Contains members n

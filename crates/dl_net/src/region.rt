@@ -13,8 +13,8 @@ pub struct Region {
     bound: usize,
     /// A bit for each number, which is set where the number is a member.
     words: Vec<u64>,
-    /// The members, with room for all numbers.
-    members: Vec<usize>,
+    /// The members, with room for all numbers. The bound has 32 bits, so that they take half of the memory.
+    members: Vec<u32>,
 }
 
 impl Model for Region {
@@ -31,11 +31,15 @@ impl Model for Region {
 impl Region {
     ghost use Rattle.dl_net.specs.Region.{IsRegion};
 
-    /// No members, with room for all numbers below the bound. `Memory` where there is none for that.
+    /// No members, with room for all numbers below the bound. `Memory` where there is none for that, or where the bound takes more
+    /// than 32 bits.
     pub fn make(alloc: Global, names: usize) -> Result<Region, Memory>
         ensures bound { IfOk result (λ region. region.bound ≡ names) }
         ensures members { IfOk result (λ region. region.members ≡ []) }
     {
+        if names > u32::MAX as usize {
+            return Err(Memory);
+        }
         let mut words = Vec::new(alloc);
         words.resize(names / 64 + 1, 0u64)?;
         let members = Vec::with_capacity(alloc, names)?;
@@ -69,7 +73,7 @@ impl Region {
             return;
         }
         set(&mut self.words, number);
-        match self.members.push(number) {
+        match self.members.push(number as u32) {
             Ok(()) => {}
             Err(_) => unreachable!(),
         }
@@ -106,7 +110,10 @@ impl Region {
         ensures member { result ≡ slice_get self.now.members place }
         ensures region { IsRegion self.now }
     {
-        self.members.get(place).copied()
+        match self.members.get(place) {
+            None => None,
+            Some(number) => Some(*number as usize),
+        }
     }
 }
 
@@ -128,12 +135,12 @@ fn set(words: &mut Vec<u64>, number: usize)
 }
 
 /// Clears the words of numbers.
-fn wipe(words: &mut Vec<u64>, numbers: &[usize])
+fn wipe(words: &mut Vec<u64>, numbers: &[u32])
     requires { All (λ n. n / 64 < length words.old.items) numbers.now }
     ensures len { length words.new.items ≡ length words.old.items }
     ensures bits { (n : ℕ) → has words.new.items n ≡ true → (has words.old.items n ≡ true) × (¬ Contains numbers.now n) }
 {
     for number in numbers {
-        words[*number / 64] = 0;
+        words[*number as usize / 64] = 0;
     }
 }
