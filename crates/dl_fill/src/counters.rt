@@ -118,7 +118,7 @@ impl Counters {
     }
 
     /// Whether so many nodes have fired that clearing all nodes costs less than going along the queue.
-    pub fn is_crowded(&self) -> bool {
+    pub(crate) fn is_crowded(&self) -> bool {
         self.len >= self.cells.len() / CROWD
     }
 

@@ -1,11 +1,11 @@
 -- Literals that are kept by their modes and atoms, each beside its complement.
 use Rattle.std.proofs.Common.{◌≡◌, ◌⊎◌, ℕ, zero, suc, ◌+◌, ◌*◌, ◌/◌, ◌<◌, Bool, true, false, not, cond, Option, None, Some, Result, Ok, Err, List, [], ◌∷◌, ◌++◌, length, get_or, take, refl, sym, ap, subst, ◌∙◌, arith, inl, inr, position}
-use Rattle.std.specs.Prelude.{◌||◌, Contains, nat_lt, slice_get, OnOk, IfOk, if◌then◌else◌}
+use Rattle.std.specs.Prelude.{Contains, nat_lt, slice_get, OnOk, IfOk, if◌then◌else◌}
 use Rattle.std.specs.Bool.{beq}
 use Rattle.std.specs.List.{list_any, position_or_len}
 use Rattle.std.specs.Option.{option_map}
 use Rattle.std.specs.Cmp.{booleans_Decides}
-use Rattle.std.proofs.lemmas.Bool.{cond-true, lt-ltb}
+use Rattle.std.proofs.lemmas.Bool.{cond-true, lt-ltb, or_left, or_right, or_cases}
 use Rattle.std.proofs.lemmas.Option.{get_or_from_slice_get, slice_get_within, slice_get_past, slice_get-get_or, slice_get_cases}
 use Rattle.std.proofs.lemmas.List.Sums.{position_or_len_is}
 use Rattle.std.proofs.lemmas.List.Quantifiers.{position-Some}
@@ -103,18 +103,6 @@ next_pair_new ps i p distinct within is m =
     (subst (λ (ls : List Literal). Contains ls p.first) (sym (pairs_take ps (2 * i) i refl)) m)
 
 -- ---- look-ups
-
-or_left : (a b : Bool) → a ≡ true → (a || b) ≡ true
-or_left true b e = refl
-or_left false b e = cc
-
-or_right : (a b : Bool) → b ≡ true → (a || b) ≡ true
-or_right true b e = refl
-or_right false b e = e
-
-or_cases : (a b : Bool) → (a || b) ≡ true → (a ≡ true) ⊎ (b ≡ true)
-or_cases true b e = inl refl
-or_cases false b e = inr e
 
 has_at : (ps : List Both) (q : Literal) (i : ℕ) → i < length (pairs_of ps) → get_or (pairs_of ps) i q ≡ q
     → list_any (λ p. same_atom q p.first) ps ≡ true
