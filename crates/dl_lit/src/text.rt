@@ -7,14 +7,15 @@ use std::alloc::Global;
 use std::sync::ArcSlice;
 
 /// As many bytes as stand in the name itself.
-const SHORT: usize = 14;
+const SHORT: usize = 12;
 
-/// A few bytes in place.
+/// A few bytes in place. The length has 16 bits for the sake of moves: beside a length of 8 bits the bytes of a text would begin at an
+/// odd place, and a move of seven bytes takes two steps that overlap, each of which waits for the one before.
 #[derive(Clone, Copy)]
 pub(crate) struct Short {
-    len: u8,
+    len: u16,
     bytes: [u8; SHORT],
-    ghost within: { len ≤ 14 },
+    ghost within: { len ≤ 12 },
 }
 
 /// Bytes in place, or shared ones.
@@ -28,13 +29,13 @@ impl Short {
     ghost use Rattle.dl_lit.specs.Text.{short_bytes};
 
     fn make(bytes: &[u8]) -> Short
-        requires { length bytes.now ≤ 14 }
+        requires { length bytes.now ≤ 12 }
         ensures { short_bytes result ≡ bytes.now }
     {
         let mut room = [0; SHORT];
         room[..bytes.len()].copy_from_slice(bytes);
         Short {
-            len: bytes.len() as u8,
+            len: bytes.len() as u16,
             bytes: room,
         }
     }
