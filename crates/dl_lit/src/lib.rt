@@ -4,11 +4,13 @@
 mod literal;
 mod name;
 mod names;
+mod near;
 #[cfg(test)]
 mod tests;
 mod text;
 
 pub use dl_base::Memory;
-pub use literal::{Family, Literal, Tag, Tagged};
+pub use literal::{Family, Literal, Tag, Tagged, hash_atom};
 pub use name::{Name, NameStop, begins_name, continues_name};
 pub use names::Names;
+pub use near::{NameSet, NearHasher, name_set};

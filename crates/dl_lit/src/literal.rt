@@ -1,6 +1,8 @@
 //! Literals and tagged literals.
 
 ghost use Rattle.std.specs.Prelude.{◌≡◌, IfOk};
+ghost use Rattle.std.specs.List.{fold};
+ghost use Rattle.dl_lit.specs.Order.{atom_hash};
 
 use crate::name::Name;
 use dl_base::Memory;
@@ -75,9 +77,22 @@ impl Hash for Literal {
     ghost respects_eq = { literal_hashes };
 
     fn hash<H: Hasher>(&self, state: &mut H) {
-        self.mode.hash(state);
-        self.atom.hash(state);
         self.positive.hash(state);
+        hash_atom(&self.mode, &self.atom, state);
+    }
+}
+
+/// Gives a hasher a mode and an atom. The atom comes last, so that a hasher can tell atoms that come in runs.
+pub fn hash_atom<H: Hasher>(mode: &Option<Name>, atom: &Name, state: &mut H)
+    ensures { state.new ≡ fold H.write state.old (atom_hash mode.now atom.now) }
+{
+    match mode {
+        None => atom.hash(state),
+        Some(mode) => {
+            mode.hash(state);
+            state.write_u8(b']');
+            atom.hash(state);
+        }
     }
 }
 

@@ -98,16 +98,16 @@ impl Eq for Name {
     ghost laws = { Prim.search (comparing, rules) };
 }
 
+/// By all bytes at once.
 impl Hash for Name {
-    ghost use Rattle.std.specs.Hash as fed;
-    ghost use Rattle.dl_lit.specs.Order.{name_hashes};
+    ghost use Rattle.dl_lit.specs.Order.{name_hash, name_hashes};
 
-    ghost hash_input = { fed.slice fed.u8 };
+    ghost hash_input = { name_hash };
 
     ghost respects_eq = { name_hashes };
 
     fn hash<H: Hasher>(&self, state: &mut H) {
-        self.bytes().hash(state);
+        state.write(self.bytes());
     }
 }
 

@@ -4,7 +4,7 @@ ghost use Rattle.std.specs.Prelude.{◌≡◌};
 ghost use Rattle.dl_lit.specs.Literal.{complement};
 
 use dl_base::Memory;
-use dl_lit::{Literal, Name};
+use dl_lit::{Literal, hash_atom};
 use indexmap::Equivalent;
 use std::hash::{Hash, Hasher};
 
@@ -68,24 +68,57 @@ impl Hash for Both {
     ghost respects_eq = { λ p v. atom_hashes p.first v.first };
 
     fn hash<H: Hasher>(&self, state: &mut H) {
-        self.first.mode.hash(state);
-        self.first.atom.hash(state);
+        hash_atom(&self.first.mode, &self.first.atom, state);
     }
 }
 
-/// The mode and the atom of a literal stand for it, so that no literal is copied to be sought.
-impl Equivalent<Both> for (&Option<Name>, &Name) {
-    ghost use Rattle.std.specs.Prelude.{true};
-    ghost use Rattle.dl_lit.specs.declared.literal.Literal.{Literal};
+/// A literal whatever its sign. It is sought by reference, so that no literal is copied to be sought.
+#[derive(Clone, Copy)]
+pub(crate) struct Unsigned<'a> {
+    pub(crate) literal: &'a Literal,
+}
+
+impl PartialEq for Unsigned<'_> {
+    ghost use Rattle.std.specs.Cmp.{partial_equiv_from_equiv};
+    ghost use Rattle.dl_net.specs.Pairs.{unsigned_eq, unsigned_equiv};
+
+    ghost eq = { unsigned_eq };
+
+    ghost laws = { partial_equiv_from_equiv unsigned_equiv };
+
+    fn eq(&self, other: &Self) -> bool {
+        self.literal.mode == other.literal.mode && self.literal.atom == other.literal.atom
+    }
+}
+
+impl Eq for Unsigned<'_> {
+    ghost use Rattle.dl_net.specs.Pairs.{unsigned_equiv};
+
+    ghost laws = { unsigned_equiv };
+}
+
+impl Hash for Unsigned<'_> {
+    ghost use Rattle.dl_net.specs.Pairs.{unsigned_hash, atom_hashes};
+
+    ghost hash_input = { unsigned_hash };
+
+    ghost respects_eq = { λ q r. atom_hashes q.literal.now r.literal.now };
+
+    fn hash<H: Hasher>(&self, state: &mut H) {
+        hash_atom(&self.literal.mode, &self.literal.atom, state);
+    }
+}
+
+impl Equivalent<Both> for Unsigned<'_> {
     ghost use Rattle.dl_net.specs.Pairs.{same_atom, atom_equiv, atom_hashes};
 
-    ghost equivalent = { λ q p. same_atom (record { mode = q.0.now; atom = q.1.now; positive = true }) p.first };
+    ghost equivalent = { λ q p. same_atom q.literal.now p.first };
 
-    ghost respects_hash = { λ q p. atom_hashes (record { mode = q.0.now; atom = q.1.now; positive = true }) p.first };
+    ghost respects_hash = { λ q p. atom_hashes q.literal.now p.first };
 
-    ghost respects_eq = { λ q p v. atom_equiv.congr (record { mode = q.0.now; atom = q.1.now; positive = true }) p.first v.first };
+    ghost respects_eq = { λ q p v. atom_equiv.congr q.literal.now p.first v.first };
 
     fn equivalent(&self, key: &Both) -> bool {
-        *self.0 == key.first.mode && *self.1 == key.first.atom
+        self.literal.mode == key.first.mode && self.literal.atom == key.first.atom
     }
 }

@@ -8,10 +8,9 @@ ghost use Rattle.dl_lit.specs.Names.{no_names, with_both};
 ghost use Rattle.dl_net.specs.Named.{IsPaired};
 ghost use Rattle.dl_net.specs.Pairs.{pairs_of};
 
-use crate::both::Both;
+use crate::both::{Both, Unsigned};
 use dl_base::Memory;
-use dl_lit::Literal;
-use indexmap::IndexSet;
+use dl_lit::{Literal, NameSet, name_set};
 use std::alloc::Global;
 use std::marker::Model;
 
@@ -22,7 +21,7 @@ const PAIR_LIMIT: usize = 0x8000_0000;
 #[derive(Drop)]
 pub(crate) struct PairedNames {
     /// Each pair, found by its mode and atom whatever the sign.
-    pairs: IndexSet<Both>,
+    pairs: NameSet<Both>,
     frozen: bool,
 }
 
@@ -43,7 +42,7 @@ impl PairedNames {
         ensures { result ≡ no_names }
     {
         PairedNames {
-            pairs: IndexSet::new(alloc),
+            pairs: name_set(alloc),
             frozen: false,
         }
     }
@@ -81,7 +80,7 @@ impl PairedNames {
         ensures distinct { IsDistinct self.now.literals }
         ensures paired { IsPaired self.now.literals }
     {
-        match self.pairs.get_full((&literal.mode, &literal.atom)) {
+        match self.pairs.get_full(Unsigned { literal }) {
             None => None,
             Some((place, both)) => {
                 if both.first().positive == literal.positive {

@@ -1,20 +1,20 @@
 -- Pairs added one after another, as edits.
-use Rattle.std.proofs.Common.{◌≡◌, ℕ, ◌+◌, ◌≤◌, ◌<◌, List, [], ◌∷◌, ◌++◌, Option, None, Some, Result, Ok, Err, length, take, get_or, refl, sym, ap, subst, ◌∙◌, append_assoc, arith, length-append}
-use Rattle.std.specs.Prelude.{All, OnOk, IfErr, slice_get}
-use Rattle.std.proofs.lemmas.List.{append-nil, take_all, take-take, length-take, length-take-le}
+use Rattle.std.proofs.Common.{◌≡◌, ℕ, ◌+◌, ◌≤◌, ◌<◌, List, [], ◌∷◌, ◌++◌, Option, None, Some, Result, length, take, sym, ap, subst, ◌∙◌, append_assoc, arith, length-append}
+use Rattle.std.specs.Prelude.{All, OnOk, IfErr}
+use Rattle.std.proofs.lemmas.List.{append-nil, take_all, take-take, length-take}
 use Rattle.std.proofs.lemmas.List.Elements.{All-head, All-tail, All-take}
 use Rattle.std.proofs.lemmas.Option.{slice_get_within, get_or_from_slice_get}
 use Rattle.dl_theory.specs.declared.rule.Pair.{Pair}
 use Rattle.dl_theory.specs.declared.edit.Edit.TheVariants.{AddPair}
 use Rattle.dl_theory.specs.declared.edit.EditRefusal.{EditRefusal}
-use Rattle.dl_theory.specs.declared.edit.EditRefusal.TheVariants.{NoLabel, LabelThere, FactThere, NoFact, PairThere, NoPair, Cycle, RulesFull, FactsFull, PairsFull}
+use Rattle.dl_theory.specs.declared.edit.EditRefusal.TheVariants.{NoLabel}
 use Rattle.dl_theory.specs.declared.edit.PairsStop.{PairsStop}
 use Rattle.dl_theory.specs.declared.superiority.PairCause.{PairCause}
 use Rattle.dl_theory.specs.declared.superiority.PairCause.TheVariants as pair_cause
 use Rattle.dl_theory.specs.declared.superiority.PairRefused.{PairRefused}
 use Rattle.dl_theory.specs.Lists.{TheoryLists, IsWellFormed}
-use Rattle.dl_theory.specs.Superiority.{AreFree, IsCause, AddsUpTo, AddsAll}
-use Rattle.dl_theory.specs.Edits.{after_edit, after_edits, additions, AreAccepted, IsRefused, IsMissing, HasBoth, IsFront, StopsAtPair, IsPairsStop}
+use Rattle.dl_theory.specs.Superiority.{AreFree, IsCause, AddsAll}
+use Rattle.dl_theory.specs.Edits.{after_edit, after_edits, additions, AreAccepted, IsRefused, IsMissing, HasBoth, IsFront, IsPairsStop}
 use Rattle.dl_theory.specs.Refusals.{refusal_of, outcome_of}
 use Rattle.dl_theory.proofs.WellFormed.{edits_keep}
 use Rattle.dl_theory.proofs.Loads.{slice_get-take}

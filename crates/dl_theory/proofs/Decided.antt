@@ -1,12 +1,10 @@
 -- The tests decide the conditions.
-use Rattle.std.proofs.Common.{◌≡◌, ◌≢◌, suc, Bool, true, false, not, ◌&&◌, ◌||◌, List, [], ◌∷◌, ◌++◌, ◌⊎◌, refl, sym, ap, subst, true≢false, arith}
+use Rattle.std.proofs.Common.{◌≡◌, ◌≢◌, suc, Bool, true, false, not, ◌&&◌, ◌||◌, List, [], ◌∷◌, ◌++◌, ◌⊎◌, refl, sym, subst, true≢false, arith}
 use Rattle.std.specs.Prelude.{All, Any, Contains, IsTrue}
 use Rattle.std.specs.Bool.{Decides}
 use Rattle.std.specs.List.{list_any, list_all}
 use Rattle.std.specs.Set.{is_member}
-use Rattle.std.specs.Str.{bytes_eq}
 use Rattle.std.proofs.lemmas.List.Recursion.{or_at}
-use Rattle.std.proofs.lemmas.Slice.Eq.{bytes_eq-Decides}
 use Rattle.std.proofs.lemmas.Bool.Decides.{Decides-by_and, Decides-and, Decides-or, Decides-not, Decides-like}
 use Rattle.std.proofs.lemmas.Map.Made.{is_member-Decides}
 use Rattle.dl_lit.specs.declared.literal.Literal.{Literal}
@@ -16,9 +14,8 @@ use Rattle.dl_lit.specs.declared.literal.Family.TheVariants.{Definite, Blocking,
 use Rattle.dl_lit.specs.Literal.{tagged, literal_eq}
 use Rattle.dl_lit.specs.Order.{literal_eq-Decides, tagged_eq-Decides}
 use Rattle.dl_theory.specs.declared.rule.Rule.{Rule}
-use Rattle.dl_theory.specs.declared.rule.Pair.{Pair}
 use Rattle.dl_theory.specs.Lists.{TheoryLists, IsStrictFor, Supports, Opposes, Beats, attackers, is_strict, can_support}
-use Rattle.dl_theory.specs.Pairs.{pair_eq, pair_eq-Decides}
+use Rattle.dl_theory.specs.Pairs.{pair_eq-Decides}
 use Rattle.dl_theory.specs.Conditions.{IsOn, IsOff, Prevails, Fails, Condition, Meets}
 use Rattle.std.proofs.lemmas.List.Kept.{AllPairs-cons}
 use Rattle.std.proofs.lemmas.List.Elements.{Contains-get_or}

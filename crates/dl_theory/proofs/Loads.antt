@@ -1,26 +1,25 @@
 -- Pairs added one after another, by their numbers.
-use Rattle.std.proofs.Common.{◌≡◌, ◌≢◌, ℕ, zero, suc, ◌+◌, ◌-◌, ◌<◌, ◌≤◌, List, [], ◌∷◌, ◌++◌, Option, None, Some, length, map, take, get_or, filter, not, is_some, true, false, inl, inr, refl, sym, ap, subst, ◌∙◌, append_assoc, arith, length-append}
+use Rattle.std.proofs.Common.{◌≡◌, ℕ, zero, suc, ◌+◌, ◌-◌, ◌<◌, ◌≤◌, List, [], ◌∷◌, ◌++◌, Option, None, Some, length, map, take, get_or, filter, not, is_some, true, false, inl, inr, refl, sym, ap, subst, ◌∙◌, append_assoc, arith, length-append}
 use Rattle.std.specs.Prelude.{All, Contains, slice_get}
 use Rattle.std.specs.Option.{option_map_or, option_map, IfSome}
-use Rattle.std.proofs.lemmas.List.{append-nil, take_all, take-map, length-map, length-take-le, take_at, take-append-le, take-take, take_more}
+use Rattle.std.proofs.lemmas.List.{append-nil, take_all, length-map, length-take-le, take-append-le, take-take, take_more}
 use Rattle.std.proofs.Math.Seq.{take-append-add}
 use Rattle.std.proofs.lemmas.Bool.{cases_lt}
 use Rattle.std.proofs.lemmas.Option.{slice_get-map, slice_get_within, get_or_from_slice_get, slice_get-get_or}
-use Rattle.std.proofs.lemmas.List.Elements.{All-nil, All-head, All-tail, All-take, Contains-get_or, Contains-append_left, Contains-append_right}
+use Rattle.std.proofs.lemmas.List.Elements.{All-nil, All-head, All-tail, Contains-get_or, Contains-append_left, Contains-append_right}
 use Rattle.dl_base.specs.Paths.{IsDistinct, IsPath, HasCycle}
 use Rattle.dl_base.proofs.Distinct.{distinct_nil, distinct_push, distinct_apart}
 use Rattle.dl_base.proofs.Members.{Contains-mapped}
 use Rattle.dl_base.proofs.PathLemmas.{path_more}
 use Rattle.dl_sup.specs.declared.link.Link.{Link}
-use Rattle.dl_sup.specs.Links.{IsOver}
 use Rattle.dl_sup.specs.Adding.{AreAddable}
 use Rattle.dl_theory.specs.declared.rule.Pair.{Pair}
 use Rattle.dl_theory.specs.declared.superiority.PairCause.{PairCause}
 use Rattle.dl_theory.specs.declared.superiority.PairCause.TheVariants.{There, Cycle, Full}
 use Rattle.dl_theory.specs.declared.superiority.PairRefused.{PairRefused}
 use Rattle.dl_theory.specs.Lists.{IsAbove}
-use Rattle.dl_theory.specs.Pairs.{pair_eq, pair_eq-Decides, Closes, named, IsWithin, IsNumbered, IsNumberOf}
-use Rattle.dl_theory.specs.Superiority.{moved_back, IsFree, AreFree, IsCause, AddsUpTo, AddsAll, IsLinkCause, OrdersUpTo, OrdersAll}
+use Rattle.dl_theory.specs.Pairs.{pair_eq, pair_eq-Decides, named, IsWithin, IsNumbered, IsNumberOf}
+use Rattle.dl_theory.specs.Superiority.{moved_back, IsFree, AreFree, IsCause, AddsUpTo, AddsAll, IsLinkCause, OrdersAll}
 use Rattle.dl_theory.proofs.Numbers.{numbered_push, numbered_taken, not_closing, old_link, path_named, without_pushed}
 
 -- pairs whose numbers may be added one after another may be added so

@@ -1,6 +1,6 @@
 -- What makes marks right: each that stands follows, and what meets its condition over the marks is marked.
-use Rattle.std.proofs.Common.{◌≡◌, ◌≢◌, ℕ, ◌<◌, Bool, List, Some, length, get_or, inl, inr, sym, subst, ◌∙◌, arith}
-use Rattle.std.specs.Prelude.{◌↔◌, All, slice_get}
+use Rattle.std.proofs.Common.{◌≡◌, ℕ, Bool, List, Some, get_or, inl, inr, sym, subst, ◌∙◌, arith}
+use Rattle.std.specs.Prelude.{◌↔◌, slice_get}
 use Rattle.std.proofs.lemmas.Bool.{cases_lt}
 use Rattle.std.proofs.lemmas.Option.{slice_get_within, get_or_from_slice_get}
 use Rattle.dl_base.specs.Paths.{IsDistinct}

@@ -1,6 +1,6 @@
 -- The place of a value in a list, and a removed value.
-use Rattle.std.proofs.Common.{◌≡◌, ◌≢◌, ℕ, Bool, true, false, not, List, Option, Some, None, get_or, position, is_some, refl, sym, ap, subst, ◌∙◌, true≢false}
-use Rattle.std.specs.Prelude.{Contains, IfSome, IsTrue}
+use Rattle.std.proofs.Common.{◌≡◌, ℕ, Bool, true, false, not, List, Option, Some, None, get_or, position, is_some, refl, sym, ap, ◌∙◌, true≢false}
+use Rattle.std.specs.Prelude.{Contains, IfSome}
 use Rattle.std.specs.Bool.{Decides}
 use Rattle.std.specs.Set.{is_member}
 use Rattle.std.proofs.lemmas.List.Quantifiers.{position-Some}

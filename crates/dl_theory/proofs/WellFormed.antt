@@ -1,13 +1,11 @@
 -- Edits keep a theory well formed.
-use Rattle.std.proofs.Common.{◌≡◌, ◌≢◌, ℕ, ◌<◌, Bool, true, false, not, ◌||◌, List, [], ◌∷◌, ◌++◌, Result, Ok, Err, length, inl, inr, ◌⊎◌, ◌∙◌, sym, ap, subst, refl, arith, length-append}
-use Rattle.std.specs.Prelude.{All, Contains, OnOk, OnErr, filter, map}
-use Rattle.std.specs.Bool.{Decides}
+use Rattle.std.proofs.Common.{◌≡◌, ◌≢◌, ℕ, ◌<◌, Bool, true, false, not, ◌||◌, List, [], ◌∷◌, ◌++◌, Result, Ok, Err, length, inl, inr, ◌⊎◌, sym, ap, subst, refl, arith, length-append}
+use Rattle.std.specs.Prelude.{Contains, OnOk, OnErr, filter}
 use Rattle.std.specs.List.{list_any}
-use Rattle.std.proofs.lemmas.List.Quantifiers.{all_pairs_push}
 use Rattle.std.specs.Str.{bytes_eq}
 use Rattle.std.proofs.lemmas.Slice.Eq.{bytes_eq-Decides}
 use Rattle.std.proofs.lemmas.List.{map-append}
-use Rattle.std.proofs.lemmas.List.Elements.{All-weaker, All-push, All-filter, Contains-get_or, Contains-append_left, Contains-push_cases, filter_passes}
+use Rattle.std.proofs.lemmas.List.Elements.{All-weaker, All-push, All-filter, Contains-append_left, Contains-push_cases, filter_passes}
 use Rattle.std.proofs.lemmas.List.Kept.{AllPairs-filter}
 use Rattle.dl_theory.specs.declared.rule.Rule.{Rule}
 use Rattle.std.proofs.lemmas.Map.Made.{is_member-Decides}

@@ -1,7 +1,7 @@
 -- A condition stays met where more is derived, and looks only at literals that its own literal reaches.
-use Rattle.std.proofs.Common.{◌≡◌, List, Bool, true, false, get_or, inl, inr, ◌⊎◌, sym, subst, refl, lit<}
+use Rattle.std.proofs.Common.{◌≡◌, Bool, true, false, inl, inr, ◌⊎◌, sym, subst, refl, lit<}
 use Rattle.std.specs.Prelude.{All, Any, Contains}
-use Rattle.std.proofs.lemmas.List.Elements.{All-contains, Contains-get_or}
+use Rattle.std.proofs.lemmas.List.Elements.{All-contains}
 use Rattle.dl_base.proofs.Members.{all_more, any_more}
 use Rattle.dl_lit.specs.declared.literal.Literal.{Literal}
 use Rattle.dl_lit.specs.declared.literal.Tagged.{Tagged}

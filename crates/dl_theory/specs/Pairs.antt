@@ -9,6 +9,7 @@ use Rattle.std.proofs.Common.{ap}
 use Rattle.std.proofs.lemmas.Slice.Eq.{bytes_eq-Decides}
 use Rattle.std.proofs.lemmas.Bool.Decides.{Decides-and, Decides-like}
 use Rattle.dl_base.specs.Paths.{IsDistinct, IsPath}
+use Rattle.dl_lit.specs.Order.{name_hash}
 use Rattle.dl_sup.specs.declared.link.Link.{Link}
 use Rattle.dl_theory.specs.declared.rule.Pair.{Pair}
 use Rattle.dl_theory.specs.Lists.{IsAbove}
@@ -26,7 +27,7 @@ pair_eq-Decides p q =
     (Decides-and (bytes_eq p.upper q.upper) (bytes_eq p.lower q.lower) (bytes_eq-Decides p.upper q.upper) (bytes_eq-Decides p.lower q.lower))
 
 abbrev pub pair_hash : Pair → fed.HashWrites
-pair_hash p = fed.slice fed.u8 p.upper ++ fed.slice fed.u8 p.lower
+pair_hash p = name_hash p.upper ++ name_hash p.lower
 
 -- equal pairs hash alike
 pub pair_hashes : (p q : Pair) → IsTrue (pair_eq p q) → pair_hash p ≡ pair_hash q

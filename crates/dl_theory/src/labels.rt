@@ -2,16 +2,15 @@
 
 ghost use Rattle.std.specs.Prelude.{◌≡◌, [], ◌∷◌, ◌++◌, ◌↔◌, ◌<◌, IsTrue, IfOk, OnOk, OnErr, IfSome, None, Contains, false, length, slice_index_or, if◌then◌else◌};
 
-use dl_lit::{Memory, Name};
-use indexmap::IndexSet;
+use dl_lit::{Memory, Name, NameSet};
 
-pub(crate) fn holds_label(labels: &IndexSet<Name>, label: &Name) -> bool
+pub(crate) fn holds_label(labels: &NameSet<Name>, label: &Name) -> bool
     ensures { IsTrue result ↔ Contains labels.now.keys label.now }
 {
     labels.contains(label)
 }
 
-pub(crate) fn append_label(labels: &mut IndexSet<Name>, label: Name) -> Result<(), Memory>
+pub(crate) fn append_label(labels: &mut NameSet<Name>, label: Name) -> Result<(), Memory>
     requires { ¬ Contains labels.old.keys label }
     ensures ok { OnOk result (labels.new.keys ≡ labels.old.keys ++ label ∷ []) }
     ensures err { OnErr result (labels.new.keys ≡ labels.old.keys) }
@@ -21,7 +20,7 @@ pub(crate) fn append_label(labels: &mut IndexSet<Name>, label: Name) -> Result<(
 }
 
 /// Adds a label at the end where it is new, and tells whether it is.
-pub(crate) fn insert_label(labels: &mut IndexSet<Name>, label: Name) -> Result<bool, Memory>
+pub(crate) fn insert_label(labels: &mut NameSet<Name>, label: Name) -> Result<bool, Memory>
     ensures new { IfOk result (λ new. (new ≡ false) ↔ Contains labels.old.keys label) }
     ensures keys { IfOk result (λ new. labels.new.keys ≡ labels.old.keys ++ (if new then label ∷ [] else [])) }
     ensures err { OnErr result (labels.new.keys ≡ labels.old.keys) }
@@ -31,7 +30,7 @@ pub(crate) fn insert_label(labels: &mut IndexSet<Name>, label: Name) -> Result<b
 }
 
 /// The place of a label.
-pub(crate) fn place_of(labels: &IndexSet<Name>, label: &Name) -> Option<usize>
+pub(crate) fn place_of(labels: &NameSet<Name>, label: &Name) -> Option<usize>
     ensures within { IfSome result (λ at. at < length labels.now.keys) }
     ensures there { IfSome result (λ at. slice_index_or labels.now.keys at [] ≡ label.now) }
     ensures absent { result ≡ None → ¬ Contains labels.now.keys label.now }

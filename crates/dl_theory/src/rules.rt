@@ -7,8 +7,7 @@ ghost use Rattle.dl_base.specs.Paths.{IsDistinct};
 
 use crate::labels::{holds_label, insert_label, place_of};
 use crate::rule::Rule;
-use dl_lit::{Memory, Name};
-use indexmap::IndexSet;
+use dl_lit::{Memory, Name, NameSet, name_set};
 use std::alloc::Global;
 use std::marker::Model;
 
@@ -16,7 +15,7 @@ use std::marker::Model;
 #[derive(Drop)]
 pub(crate) struct Rules {
     items: Vec<Rule>,
-    labels: IndexSet<Name>,
+    labels: NameSet<Name>,
 }
 
 impl Model for Rules {
@@ -36,7 +35,7 @@ impl Rules {
     {
         Rules {
             items: Vec::new(alloc),
-            labels: IndexSet::new(alloc),
+            labels: name_set(alloc),
         }
     }
 
@@ -112,7 +111,7 @@ impl Rules {
 /// The rule and its label go last where the label is new; else the rule comes back.
 fn add_rule(
     rules: &mut Vec<Rule>,
-    labels: &mut IndexSet<Name>,
+    labels: &mut NameSet<Name>,
     label: Name,
     rule: Rule,
 ) -> Result<Option<Rule>, Memory>
@@ -131,7 +130,7 @@ fn add_rule(
     }
 }
 
-fn drop_rule(rules: &mut Vec<Rule>, labels: &mut IndexSet<Name>, label: &Name) -> bool
+fn drop_rule(rules: &mut Vec<Rule>, labels: &mut NameSet<Name>, label: &Name) -> bool
     requires aligned { labels.old.keys ≡ map (λ r. r.label) rules.old.items }
     requires distinct { IsDistinct labels.old.keys }
     ensures found { IsTrue result ↔ Contains labels.old.keys label.now }

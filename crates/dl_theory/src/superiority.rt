@@ -15,9 +15,8 @@ use crate::labels::{append_label, place_of};
 use crate::lists::Path;
 use crate::rule::Pair;
 use crate::theory::LIMIT;
-use dl_lit::{Memory, Name};
+use dl_lit::{Memory, Name, NameSet, name_set};
 use dl_sup::{Link, LoadStop, Order, SupStop};
-use indexmap::IndexSet;
 use std::alloc::Global;
 use std::marker::Model;
 
@@ -59,8 +58,8 @@ impl From<Memory> for PairStop {
 /// and the order has, for each pair, the places of its labels.
 #[derive(Drop)]
 pub(crate) struct Superiority {
-    pairs: IndexSet<Pair>,
-    items: IndexSet<Name>,
+    pairs: NameSet<Pair>,
+    items: NameSet<Name>,
     order: Order,
 }
 
@@ -82,8 +81,8 @@ impl Superiority {
         ensures { result ≡ [] }
     {
         Superiority {
-            pairs: IndexSet::new(alloc),
-            items: IndexSet::new(alloc),
+            pairs: name_set(alloc),
+            items: name_set(alloc),
             order: Order::make(alloc),
         }
     }
@@ -113,7 +112,7 @@ impl Superiority {
     pub fn load(alloc: Global, pairs: &[Pair]) -> Result<(Superiority, Option<PairRefused>), Memory>
         ensures { IfOk result (λ r. AddsAll [] r.0 pairs.now r.1) }
     {
-        let mut items = IndexSet::new(alloc);
+        let mut items = name_set(alloc);
         let links = number_all(alloc, &mut items, pairs)?;
         let (order, refused) = order_of(alloc, items.as_slice(), links.as_slice())?;
         let kept = kept_len(&refused, pairs.len());
@@ -248,14 +247,14 @@ impl Superiority {
     }
 }
 
-fn holds_pair(pairs: &IndexSet<Pair>, pair: &Pair) -> bool
+fn holds_pair(pairs: &NameSet<Pair>, pair: &Pair) -> bool
     ensures { IsTrue result ↔ Contains pairs.now.keys pair.now }
 {
     pairs.contains(pair)
 }
 
 /// The place of a label among the items, which may grow.
-fn number(items: &mut IndexSet<Name>, label: &Name) -> Result<usize, Memory>
+fn number(items: &mut NameSet<Name>, label: &Name) -> Result<usize, Memory>
     requires { IsDistinct items.old.keys }
     ensures distinct { IsDistinct items.new.keys }
     ensures grown { (more : List (List ℕ)) × (items.new.keys ≡ items.old.keys ++ more) }
@@ -272,7 +271,7 @@ fn number(items: &mut IndexSet<Name>, label: &Name) -> Result<usize, Memory>
 }
 
 /// The places of both labels of a pair.
-fn number_pair(items: &mut IndexSet<Name>, pair: &Pair) -> Result<Link, Memory>
+fn number_pair(items: &mut NameSet<Name>, pair: &Pair) -> Result<Link, Memory>
     requires { IsDistinct items.old.keys }
     ensures distinct { IsDistinct items.new.keys }
     ensures grown { (more : List (List ℕ)) × (items.new.keys ≡ items.old.keys ++ more) }
@@ -283,11 +282,7 @@ fn number_pair(items: &mut IndexSet<Name>, pair: &Pair) -> Result<Link, Memory>
     Ok(Link { upper, lower })
 }
 
-fn number_all(
-    alloc: Global,
-    items: &mut IndexSet<Name>,
-    pairs: &[Pair],
-) -> Result<Vec<Link>, Memory>
+fn number_all(alloc: Global, items: &mut NameSet<Name>, pairs: &[Pair]) -> Result<Vec<Link>, Memory>
     requires { IsDistinct items.old.keys }
     ensures { IfOk result (λ links. IsNumbered items.new.keys links.items pairs.now) }
 {
@@ -364,11 +359,11 @@ fn copy_behind(all: &mut Vec<Pair>, pairs: &[Pair]) -> Result<(), Memory>
     Ok(())
 }
 
-fn collect_pairs(alloc: Global, pairs: &[Pair]) -> Result<IndexSet<Pair>, Memory>
+fn collect_pairs(alloc: Global, pairs: &[Pair]) -> Result<NameSet<Pair>, Memory>
     requires { IsDistinct pairs.now }
     ensures { IfOk result (λ set. set.keys ≡ pairs.now) }
 {
-    let mut set = IndexSet::new(alloc);
+    let mut set = name_set(alloc);
     for pair in pairs {
         insert_pair(&mut set, pair.copy()?)?;
     }
@@ -409,7 +404,7 @@ fn add_link(alloc: Global, items: &[Name], order: &mut Order, link: Link) -> Res
     }
 }
 
-fn append_pair(pairs: &mut IndexSet<Pair>, pair: Pair) -> Result<(), PairStop>
+fn append_pair(pairs: &mut NameSet<Pair>, pair: Pair) -> Result<(), PairStop>
     requires { ¬ Contains pairs.old.keys pair }
     ensures room { OnOk result (length pairs.old.keys < 1000000) }
     ensures ok { OnOk result (pairs.new.keys ≡ pairs.old.keys ++ pair ∷ []) }
@@ -424,7 +419,7 @@ fn append_pair(pairs: &mut IndexSet<Pair>, pair: Pair) -> Result<(), PairStop>
     Ok(())
 }
 
-fn insert_pair(pairs: &mut IndexSet<Pair>, pair: Pair) -> Result<(), Memory>
+fn insert_pair(pairs: &mut NameSet<Pair>, pair: Pair) -> Result<(), Memory>
     requires { ¬ Contains pairs.old.keys pair }
     ensures ok { OnOk result (pairs.new.keys ≡ pairs.old.keys ++ pair ∷ []) }
     ensures err { OnErr result (pairs.new.keys ≡ pairs.old.keys) }
@@ -436,7 +431,7 @@ fn insert_pair(pairs: &mut IndexSet<Pair>, pair: Pair) -> Result<(), Memory>
 /// Adds a pair and its numbers, or neither.
 fn add_numbered(
     alloc: Global,
-    pairs: &mut IndexSet<Pair>,
+    pairs: &mut NameSet<Pair>,
     items: &[Name],
     order: &mut Order,
     pair: Pair,
@@ -465,8 +460,8 @@ fn add_numbered(
 }
 
 fn drop_numbered(
-    pairs: &mut IndexSet<Pair>,
-    items: &IndexSet<Name>,
+    pairs: &mut NameSet<Pair>,
+    items: &NameSet<Name>,
     order: &mut Order,
     pair: &Pair,
 ) -> bool
@@ -485,7 +480,7 @@ fn drop_numbered(
     found
 }
 
-fn remove_pair(pairs: &mut IndexSet<Pair>, pair: &Pair) -> bool
+fn remove_pair(pairs: &mut NameSet<Pair>, pair: &Pair) -> bool
     requires { IsDistinct pairs.old.keys }
     ensures found { IsTrue result ↔ Contains pairs.old.keys pair.now }
     ensures dropped { pairs.new.keys ≡ filter (λ p. not (pair_eq p pair.now)) pairs.old.keys }
@@ -493,7 +488,7 @@ fn remove_pair(pairs: &mut IndexSet<Pair>, pair: &Pair) -> bool
     pairs.shift_remove(pair)
 }
 
-fn drop_naming(pairs: &mut IndexSet<Pair>, order: &mut Order, label: &Name, item: usize)
+fn drop_naming(pairs: &mut NameSet<Pair>, order: &mut Order, label: &Name, item: usize)
     ensures pairs { pairs.new.keys ≡ filter (λ p. not (bytes_eq p.upper label.now || bytes_eq p.lower label.now)) pairs.old.keys }
     ensures links { order.new ≡ filter (λ l. not (names_item item l)) order.old }
 {

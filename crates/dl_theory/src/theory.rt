@@ -10,8 +10,7 @@ use crate::edit::{Edit, EditRefusal, EditStop, PairsStop};
 use crate::rule::{Pair, Rule};
 use crate::rules::Rules;
 use crate::superiority::{PairCause, PairRefused, PairStop, Superiority};
-use dl_lit::{Literal, Memory, Name};
-use indexmap::IndexSet;
+use dl_lit::{Literal, Memory, Name, NameSet, name_set};
 use std::alloc::Global;
 use std::marker::Model;
 
@@ -20,7 +19,7 @@ pub(crate) const LIMIT: usize = 1_000_000;
 /// Facts, rules with distinct labels, and pairs of labels.
 #[derive(Drop)]
 pub struct Theory {
-    facts: IndexSet<Literal>,
+    facts: NameSet<Literal>,
     rules: Rules,
     pairs: Superiority,
 }
@@ -46,7 +45,7 @@ impl Theory {
         ensures { result ≡ no_lists }
     {
         Theory {
-            facts: IndexSet::new(alloc),
+            facts: name_set(alloc),
             rules: Rules::make(alloc),
             pairs: Superiority::make(alloc),
         }
@@ -395,24 +394,24 @@ fn outcome_of(
     }
 }
 
-fn copy_facts(alloc: Global, facts: &[Literal]) -> Result<IndexSet<Literal>, Memory>
+fn copy_facts(alloc: Global, facts: &[Literal]) -> Result<NameSet<Literal>, Memory>
     requires { IsDistinct facts.now }
     ensures { IfOk result (λ set. set.keys ≡ facts.now) }
 {
-    let mut set = IndexSet::new(alloc);
+    let mut set = name_set(alloc);
     for fact in facts {
         append(&mut set, fact.copy()?)?;
     }
     Ok(set)
 }
 
-fn holds(facts: &IndexSet<Literal>, fact: &Literal) -> bool
+fn holds(facts: &NameSet<Literal>, fact: &Literal) -> bool
     ensures { IsTrue result ↔ Contains facts.now.keys fact.now }
 {
     facts.contains(fact)
 }
 
-fn append(facts: &mut IndexSet<Literal>, fact: Literal) -> Result<(), Memory>
+fn append(facts: &mut NameSet<Literal>, fact: Literal) -> Result<(), Memory>
     requires { ¬ Contains facts.old.keys fact }
     ensures ok { OnOk result (facts.new.keys ≡ facts.old.keys ++ fact ∷ []) }
     ensures err { OnErr result (facts.new.keys ≡ facts.old.keys) }
@@ -422,7 +421,7 @@ fn append(facts: &mut IndexSet<Literal>, fact: Literal) -> Result<(), Memory>
 }
 
 /// Adds a fact at the end where it is new, and tells whether it is.
-fn insert(facts: &mut IndexSet<Literal>, fact: Literal) -> Result<bool, Memory>
+fn insert(facts: &mut NameSet<Literal>, fact: Literal) -> Result<bool, Memory>
     ensures new { IfOk result (λ new. (new ≡ false) ↔ Contains facts.old.keys fact) }
     ensures keys { IfOk result (λ new. facts.new.keys ≡ facts.old.keys ++ (if new then fact ∷ [] else [])) }
     ensures err { OnErr result (facts.new.keys ≡ facts.old.keys) }
@@ -431,7 +430,7 @@ fn insert(facts: &mut IndexSet<Literal>, fact: Literal) -> Result<bool, Memory>
     Ok(new)
 }
 
-fn remove(facts: &mut IndexSet<Literal>, fact: &Literal) -> bool
+fn remove(facts: &mut NameSet<Literal>, fact: &Literal) -> bool
     requires { IsDistinct facts.old.keys }
     ensures found { IsTrue result ↔ Contains facts.old.keys fact.now }
     ensures dropped { facts.new.keys ≡ filter (λ x. not (literal_eq x fact.now)) facts.old.keys }

@@ -1,4 +1,4 @@
-use Rattle.std.proofs.Common.{◌≡◌, ℕ, ◌<◌, List, [], length, get_or, sym, ap, subst, ◌∙◌, map, arith}
+use Rattle.std.proofs.Common.{ℕ, ◌<◌, List, [], length, get_or, sym, ap, subst, ◌∙◌, map, arith}
 use Rattle.std.specs.Prelude.{Contains, remove}
 use Rattle.std.specs.Str.{bytes_eq}
 use Rattle.std.proofs.lemmas.List.{get_or-map, length-map}

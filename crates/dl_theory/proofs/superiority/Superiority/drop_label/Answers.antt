@@ -1,4 +1,4 @@
-use Rattle.std.proofs.Common.{◌≡◌, List, sym, subst, ◌∙◌}
+use Rattle.std.proofs.Common.{◌≡◌, List, sym, subst}
 use Rattle.std.specs.Prelude.{filter, not, ◌||◌}
 use Rattle.std.specs.Str.{bytes_eq}
 use Rattle.dl_sup.specs.declared.link.Link.{Link}

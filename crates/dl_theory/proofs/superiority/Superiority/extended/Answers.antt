@@ -1,6 +1,5 @@
-use Rattle.std.proofs.Common.{◌≡◌, ◌++◌, List, length, sym, ap, subst, ◌∙◌}
+use Rattle.std.proofs.Common.{◌++◌, List, length, ap, ◌∙◌}
 use Rattle.dl_theory.specs.declared.rule.Pair.{Pair}
-use Rattle.dl_theory.specs.Superiority.{AddsAll}
 use Rattle.dl_theory.proofs.Loads.{behind_as}
 use Rattle.dl_theory.proofs.superiority.Superiority.extended.Goals as goal
 
