@@ -124,6 +124,34 @@ impl Index {
         }
     }
 
+    /// One more rule, which goes last. What there was memory for is forgotten.
+    pub fn add(&mut self, entry: Entry) -> Result<(), Memory>
+        requires { IsWithin self.old.width entry }
+        ensures lines { OnOk result (self.new.lines ≡ self.old.lines ++ entry ∷ []) }
+        ensures lowers { OnOk result (self.new.lowers ≡ self.old.lowers ++ [] ∷ []) }
+        ensures uppers { OnOk result (self.new.uppers ≡ self.old.uppers ++ [] ∷ []) }
+        ensures numbers { OnOk result (self.new.numbers ≡ self.old.numbers + 1) }
+    {
+        self.room = Room::Nothing;
+        reserve_rule(
+            &mut self.lines,
+            &mut self.order,
+            &mut self.places,
+            &mut self.heads,
+            &mut self.uses,
+            &entry,
+        )?;
+        put_rule(
+            &mut self.lines,
+            &mut self.order,
+            &mut self.places,
+            &mut self.heads,
+            &mut self.uses,
+            entry,
+        );
+        Ok(())
+    }
+
     /// Memory for one rule below another.
     pub fn reserve_link(&mut self, upper: usize, lower: usize) -> Result<(), Memory>
         requires upper { upper < length self.old.lines }

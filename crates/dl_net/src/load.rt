@@ -1,6 +1,6 @@
 //! The indexes of a whole theory, in one pass over its rules and one over its pairs.
 
-ghost use Rattle.std.specs.Prelude.{◌≡◌, ◌<◌, ◌^◌, ◌==◌, ◌∷◌, ◌++◌, ℕ, List, [], Some, IfOk, OnOk, All, Contains, length, map, get_or};
+ghost use Rattle.std.specs.Prelude.{◌≡◌, ◌<◌, ◌^◌, ◌+◌, ◌==◌, ◌∷◌, ◌++◌, ℕ, List, [], Some, IfOk, OnOk, All, Contains, length, map, get_or};
 ghost use Rattle.dl_base.specs.Paths.{IsDistinct};
 ghost use Rattle.dl_theory.specs.declared.rule.Rule.{Rule};
 ghost use Rattle.dl_theory.specs.Lists.{labels};
@@ -9,9 +9,10 @@ ghost use Rattle.dl_theory.specs.Tests as test;
 ghost use Rattle.dl_net.specs.Above.{flip, lower_step, upper_step};
 ghost use Rattle.dl_net.specs.Named.{IsPaired, IsNear, Grows, HasLiterals, line_in};
 ghost use Rattle.dl_net.specs.Numbers.{no_rule};
-ghost use Rattle.dl_net.specs.Lines.{KeepsRules, no_line};
+ghost use Rattle.dl_net.specs.Lines.{KeepsRules, IsWithin, no_line};
 ghost use Rattle.std.specs.List.{flat_map};
 
+use crate::entry::Entry;
 use crate::index::Index;
 use crate::names::PairedNames;
 use crate::number::number_rule;
@@ -55,6 +56,28 @@ pub(crate) fn index_of(
     Ok(index)
 }
 
+/// A rule by the numbers of its literals, which get some beside their complements where they have none. The index gets lists for them.
+fn numbered(
+    alloc: Global,
+    rule: &Rule,
+    names: &mut PairedNames,
+    index: &mut Index,
+) -> Result<Entry, Memory>
+    requires { IsPaired names.old.literals }
+    ensures paired { IsPaired names.new.literals }
+    ensures distinct { IsDistinct names.new.literals }
+    ensures grown { Grows (IsNear (rule.now.head ∷ rule.now.body)) names.old.literals names.new.literals }
+    ensures there { OnOk result (HasLiterals names.new.literals rule.now) }
+    ensures same { HasLiterals names.old.literals rule.now → names.new ≡ names.old }
+    ensures kept { KeepsRules index.old index.new }
+    ensures line { IfOk result (λ e. e ≡ line_in names.new.literals rule.now) }
+    ensures within { IfOk result (IsWithin index.new.width) }
+{
+    let entry = number_rule(alloc, names, rule)?;
+    index.widen(names.len())?;
+    Ok(entry)
+}
+
 /// Room for a rule, whose literals and their complements get numbers.
 pub(crate) fn room_for_rule(
     alloc: Global,
@@ -71,9 +94,30 @@ pub(crate) fn room_for_rule(
     ensures kept { KeepsRules index.old index.new }
     ensures ready { OnOk result (index.new.ready ≡ Some (line_in names.new.literals rule.now)) }
 {
-    let entry = number_rule(alloc, names, rule)?;
-    index.widen(names.len())?;
+    let entry = numbered(alloc, rule, names, index)?;
     index.reserve(entry)
+}
+
+/// One more rule, whose literals and their complements get numbers.
+fn load_rule(
+    alloc: Global,
+    rule: &Rule,
+    names: &mut PairedNames,
+    index: &mut Index,
+) -> Result<(), Memory>
+    requires { IsPaired names.old.literals }
+    ensures paired { IsPaired names.new.literals }
+    ensures distinct { IsDistinct names.new.literals }
+    ensures grown { Grows (IsNear (rule.now.head ∷ rule.now.body)) names.old.literals names.new.literals }
+    ensures there { OnOk result (HasLiterals names.new.literals rule.now) }
+    ensures same { HasLiterals names.old.literals rule.now → names.new ≡ names.old }
+    ensures lines { OnOk result (index.new.lines ≡ index.old.lines ++ line_in names.new.literals rule.now ∷ []) }
+    ensures lowers { OnOk result (index.new.lowers ≡ index.old.lowers ++ [] ∷ []) }
+    ensures uppers { OnOk result (index.new.uppers ≡ index.old.uppers ++ [] ∷ []) }
+    ensures numbers { OnOk result (index.new.numbers ≡ index.old.numbers + 1) }
+{
+    let entry = numbered(alloc, rule, names, index)?;
+    index.add(entry)
 }
 
 /// Rules by the numbers of their literals, which get some beside their complements where they have none.
@@ -100,8 +144,7 @@ fn load_rules(
 {
     let _count = names.len();
     for rule in rules {
-        room_for_rule(alloc, rule, names, index)?;
-        index.put();
+        load_rule(alloc, rule, names, index)?;
     }
     Ok(())
 }

@@ -8,7 +8,6 @@ ghost use Rattle.dl_net.specs.Row.{no_row};
 use dl_base::Memory;
 use std::alloc::Global;
 use std::marker::Model;
-use std::mem;
 
 /// As many numbers as stand in the list itself.
 const SHORT: usize = 3;
@@ -79,15 +78,21 @@ impl Row {
         ensures items { self.new.items ≡ self.old.items ++ item ∷ [] }
         ensures spare { self.new.spare + 1 ≡ self.old.spare }
     {
-        match mem::replace(&mut self.numbers, Numbers::Few(0, [0; SHORT])) {
-            Numbers::Few(len, mut numbers) => {
-                numbers[len as usize] = item;
-                self.numbers = Numbers::Few(len + 1, numbers);
+        // in place: what is moved out and back is waited for
+        let at = match &mut self.numbers {
+            Numbers::Few(len, _) => {
+                let at = *len as usize;
+                *len += 1;
+                at
             }
-            Numbers::Many(mut list) => {
+            Numbers::Many(list) => {
                 list.push_reserved(item);
-                self.numbers = Numbers::Many(list);
+                return;
             }
+        };
+        match &mut self.numbers {
+            Numbers::Few(_, numbers) => numbers[at] = item,
+            Numbers::Many(_) => unreachable!(),
         }
     }
 

@@ -1,5 +1,5 @@
-use Rattle.std.proofs.Common.{◌≡◌, [], ◌∷◌, ◌++◌, ◌+◌, ◌<◌, ℕ, List, Option, length, get_or, map, take, refl, sym, ap, subst, ◌∙◌, arith}
-use Rattle.std.specs.Prelude.{All, option_to_list}
+use Rattle.std.proofs.Common.{◌≡◌, [], ◌∷◌, ◌++◌, ◌+◌, ◌<◌, ℕ, List, length, get_or, map, take, refl, sym, ap, subst, ◌∙◌, arith}
+use Rattle.std.specs.Prelude.{All}
 use Rattle.std.proofs.lemmas.List.{take_more, take_all, map-append}
 use Rattle.std.proofs.lemmas.List.Elements.{All-nil, All-push}
 use Rattle.dl_lit.specs.declared.literal.Literal.{Literal}
@@ -21,10 +21,10 @@ same_by : (a b c : Numbering) (rules : List Rule) (i : ℕ) (r : Rule) → i < l
 same_by a b c rules i r lt is before now h =
     now (subst (λ (n : Numbering). HasLiterals n.literals r) (sym (before h)) (subst (λ (x : Rule). HasLiterals a.literals x) (sym is) (h i r lt))) ∙ before h
 
-pub returns-in_err-room_for_rule-clause-same : goal.returns-in_err-room_for_rule-clause-same
-returns-in_err-room_for_rule-clause-same c =
-    same_by c.args.names.now c.loop-rule.names c.room_for_rule.new.names c.args.rules.now c.loop-rule.rule-index c.rule-item.result c.loop-rule-test.true
-    c.rule-item.is c.loop-rule.invariant.same c.room_for_rule.ensures.same
+pub returns-in_err-load_rule-clause-same : goal.returns-in_err-load_rule-clause-same
+returns-in_err-load_rule-clause-same c =
+    same_by c.args.names.now c.loop-rule.names c.load_rule.new.names c.args.rules.now c.loop-rule.rule-index c.rule-item.result c.loop-rule-test.true
+    c.rule-item.is c.loop-rule.invariant.same c.load_rule.ensures.same
 
 pub loop-rule-init : goal.loop-rule-init
 loop-rule-init c = record {
@@ -45,32 +45,31 @@ loop-rule-preserved c =
     let r : Rule = c.rule-item.result in
     let i : ℕ = c.loop-rule.rule-index in
     let old : List Literal = c.loop-rule.names.literals in
-    let new : List Literal = c.room_for_rule.new.names.literals in
+    let new : List Literal = c.load_rule.new.names.literals in
     let near : Literal → Type 0 = IsNear (r.head ∷ r.body) in
-    let grown : Grows near old new = c.room_for_rule.ensures.grown in
+    let grown : Grows near old new = c.load_rule.ensures.grown in
     let more : take (i + 1) rules ≡ take i rules ++ r ∷ [] =
     take_more rules i r c.loop-rule-test.true ∙ ap (λ x. take i rules ++ x ∷ []) (sym c.rule-item.is) in
     record {
-      paired = c.room_for_rule.ensures.paired;
-      distinct = c.room_for_rule.ensures.distinct;
+      paired = c.load_rule.ensures.paired;
+      distinct = c.load_rule.ensures.distinct;
       grown = Grows-trans (λ _. Unit {0}) c.args.names.now.literals old new c.loop-rule.invariant.grown
           (Grows-weaker near (λ _. Unit {0}) old new (λ q h. tt) grown);
       there = subst (λ (rs : List Rule). All (HasLiterals new) rs) (sym more)
-          (All-push (HasLiterals new) (take i rules) r (rules_grown near old new (take i rules) grown c.loop-rule.invariant.there) c.in_ok-room_for_rule.ensures.there);
-      same = same_by c.args.names.now c.loop-rule.names c.room_for_rule.new.names rules i r c.loop-rule-test.true c.rule-item.is c.loop-rule.invariant.same
-          c.room_for_rule.ensures.same;
-      lines = c.put.ensures.lines
-          ∙ ap (λ (o : Option Line). c.room_for_rule.new.index.lines ++ option_to_list o) c.in_ok-room_for_rule.ensures.ready
+          (All-push (HasLiterals new) (take i rules) r (rules_grown near old new (take i rules) grown c.loop-rule.invariant.there) c.in_ok-load_rule.ensures.there);
+      same = same_by c.args.names.now c.loop-rule.names c.load_rule.new.names rules i r c.loop-rule-test.true c.rule-item.is c.loop-rule.invariant.same
+          c.load_rule.ensures.same;
+      lines = c.in_ok-load_rule.ensures.lines
           ∙ ap (λ (xs : List Line). xs ++ line_in new r ∷ [])
-          (c.room_for_rule.ensures.kept.lines ∙ c.loop-rule.invariant.lines
-          ∙ lines_kept old new c.room_for_rule.ensures.distinct near grown (take i rules) c.loop-rule.invariant.there)
+          (c.loop-rule.invariant.lines
+          ∙ lines_kept old new c.load_rule.ensures.distinct near grown (take i rules) c.loop-rule.invariant.there)
           ∙ sym (map_more (line_in new) rules i r more);
-      lowers = c.put.ensures.lowers
-          ∙ ap (λ (xs : List (List ℕ)). xs ++ [] ∷ []) (c.room_for_rule.ensures.kept.lowers ∙ c.loop-rule.invariant.lowers)
+      lowers = c.in_ok-load_rule.ensures.lowers
+          ∙ ap (λ (xs : List (List ℕ)). xs ++ [] ∷ []) c.loop-rule.invariant.lowers
           ∙ sym (map_more {Y = List ℕ} (λ _. []) rules i r more);
-      numbers = omega (arith, c.put.ensures.numbers, c.room_for_rule.ensures.kept.numbers, c.loop-rule.invariant.numbers);
-      uppers = c.put.ensures.uppers
-          ∙ ap (λ (xs : List (List ℕ)). xs ++ [] ∷ []) (c.room_for_rule.ensures.kept.uppers ∙ c.loop-rule.invariant.uppers)
+      numbers = omega (arith, c.in_ok-load_rule.ensures.numbers, c.loop-rule.invariant.numbers);
+      uppers = c.in_ok-load_rule.ensures.uppers
+          ∙ ap (λ (xs : List (List ℕ)). xs ++ [] ∷ []) c.loop-rule.invariant.uppers
           ∙ sym (map_more {Y = List ℕ} (λ _. []) rules i r more);
     }
 
