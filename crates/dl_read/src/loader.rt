@@ -58,6 +58,8 @@ impl Loader {
     }
 
     /// Makes the edit of a line, unless an earlier one was refused.
+    // so that the edit is made once, and not moved on the way
+    #[inline(always)]
     fn add(&mut self, edit: Edit, line: u64) -> Result<(), Memory>
         ensures taken { OnOk result ((ps : List Placed) → HasTaken self.old.refused self.old.theory ps
             → HasTaken self.new.refused self.new.theory (ps ++ placed line (Some edit))) }
