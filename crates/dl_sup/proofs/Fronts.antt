@@ -11,7 +11,8 @@ use Rattle.dl_sup.specs.declared.slot.Slot.{Slot}
 use Rattle.dl_sup.specs.declared.front.Front.{Front}
 use Rattle.dl_sup.specs.declared.slot.Way.{Way}
 use Rattle.dl_sup.specs.declared.slot.Way.TheVariants.{Down, Up}
-use Rattle.dl_sup.specs.Slots.{near, far, older, head_of, slot_at, no_slot, IsAlive, live, IsChained}
+use Rattle.dl_sup.specs.HeadLists.{HeadLists, head_of}
+use Rattle.dl_sup.specs.Slots.{near, far, older, slot_at, no_slot, IsAlive, live, IsChained}
 use Rattle.dl_sup.specs.Searching.{items_of, item_at, from_at, Leads, IsFront, work, Begins, Turns, Follows, Meets}
 use Rattle.dl_sup.proofs.Slots.{live_has}
 
@@ -20,7 +21,7 @@ pub alive_leads : (way : Way) (slots : List Slot) (t : ℕ) → IsAlive slots t 
 alive_leads Down slots t a = live_has slots t a
 alive_leads Up slots t a = live_has slots t a
 
-module _ (way : Way) (slots : List Slot) (heads : List (ℕ × ℕ)) (chained : IsChained way slots heads) where
+module _ (way : Way) (slots : List Slot) (heads : HeadLists) (chained : IsChained way slots heads) where
   begun : (item : ℕ) → IsFront way slots (record { visits = (item, 0) ∷ []; next = 0; cursor = head_of heads item })
   begun item = record {
     started = omega arith;

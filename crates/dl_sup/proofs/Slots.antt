@@ -11,7 +11,8 @@ use Rattle.dl_sup.specs.declared.slot.Slot.{Slot}
 use Rattle.dl_sup.specs.declared.slot.Way.{Way}
 use Rattle.dl_sup.specs.declared.slot.Way.TheVariants.{Down, Up}
 use Rattle.dl_sup.specs.Links.{same_link, names_item}
-use Rattle.dl_sup.specs.Slots.{near, older, place_of, head_of, no_slot, slot_at, IsAlive, live, IsChained, IsKept, KeepsSlots, IsFoundAt}
+use Rattle.dl_sup.specs.HeadLists.{HeadLists, head_of}
+use Rattle.dl_sup.specs.Slots.{near, older, place_of, no_slot, slot_at, IsAlive, live, IsChained, IsKept, KeepsSlots, IsFoundAt}
 use Rattle.dl_sup.proofs.LinkLemmas.{alike, or_left, or_right, filter_all, names_neither, not_true, same_link_apart}
 
 -- a pair that is there stands before the end
@@ -31,7 +32,7 @@ pub older_same : (way : Way) (old new : List Slot) (t : ℕ) → KeepsSlots old 
 older_same Down old new t k = k.downs t
 older_same Up old new t k = k.ups t
 
-pub IsChained-kept : (way : Way) (old new : List Slot) (heads : List (ℕ × ℕ)) → KeepsSlots old new → IsChained way old heads → IsChained way new heads
+pub IsChained-kept : (way : Way) (old new : List Slot) (heads : HeadLists) → KeepsSlots old new → IsChained way old heads → IsChained way new heads
 IsChained-kept way old new heads k h = record {
   begins = λ t a. subst (λ x. t < head_of heads x) (sym (near_same way old new t k)) (h.begins t (k.alive t a));
   goes_on = λ s t before within a e.
@@ -44,7 +45,7 @@ IsChained-kept way old new heads k h = record {
   falls = λ s within. subst (λ x. x ≤ s) (sym (older_same way old new s k)) (h.falls s (subst (λ n. s < n) k.wide within));
 }
 
-pub IsKept-kept : (old new : List Slot) (places : List (Link × ℕ)) (downs ups : List (ℕ × ℕ)) → KeepsSlots old new → IsKept old places downs ups
+pub IsKept-kept : (old new : List Slot) (places : List (Link × ℕ)) (downs ups : HeadLists) → KeepsSlots old new → IsKept old places downs ups
     → IsKept new places downs ups
 IsKept-kept old new places downs ups k h = record {
   found = λ t a. ap (place_of places) (k.links t) ∙ h.found t (k.alive t a);
@@ -178,10 +179,10 @@ module _ (slots : List Slot) (d : Slot) where
             inr (e, sym (ap (λ (s : Slot). s.alive) (at_end t e)) ∙ a)
       ]
 
-  abbrev pub Raises : Way → List (ℕ × ℕ) → List (ℕ × ℕ) → Type 0
+  abbrev pub Raises : Way → HeadLists → HeadLists → Type 0
   Raises way old new = (q : ℕ) → (head_of new q ≡ head_of old q) ⊎ ((head_of new q ≡ suc (length slots)) × (near way d ≡ q))
 
-  not_lower : (way : Way) (old new : List (ℕ × ℕ)) → IsChained way slots old → Raises way old new → (q t : ℕ) → t < head_of old q → t < head_of new q
+  not_lower : (way : Way) (old new : HeadLists) → IsChained way slots old → Raises way old new → (q t : ℕ) → t < head_of old q → t < head_of new q
   not_lower way old new h up q t lt =
       elim (up q) [ inl e ↦ omega (arith, e, lt) | inr e ↦ omega (arith, e.0, lt, h.short q) ]
 
@@ -189,7 +190,7 @@ module _ (slots : List Slot) (d : Slot) where
   before_end s lt =
       elim (cases_lt s (length slots)) [ inl front ↦ inl front | inr ge ↦ inr (omega (arith, length-append slots (d ∷ []), lt, ge)) ]
 
-  pub IsChained-pushed : (way : Way) (old new : List (ℕ × ℕ)) → IsChained way slots old → older way d ≡ head_of old (near way d) → Raises way old new
+  pub IsChained-pushed : (way : Way) (old new : HeadLists) → IsChained way slots old → older way d ≡ head_of old (near way d) → Raises way old new
       → (d.alive ≡ true → length slots < head_of new (near way d)) → IsChained way (slots ++ d ∷ []) new
   IsChained-pushed way old new h own up newest = record {
     begins = λ t a.
@@ -247,7 +248,7 @@ module _ (slots : List Slot) (d : Slot) where
         ];
   }
 
-  pub IsKept-pushed : (places places' : List (Link × ℕ)) (downs ups downs' ups' : List (ℕ × ℕ)) → IsKept slots places downs ups
+  pub IsKept-pushed : (places places' : List (Link × ℕ)) (downs ups downs' ups' : HeadLists) → IsKept slots places downs ups
       → ((t : ℕ) → IsAlive slots t → place_of places' (slot_at slots t).link ≡ place_of places (slot_at slots t).link)
       → (d.alive ≡ true → place_of places' d.link ≡ Some (length slots)) → d.down ≡ head_of downs d.link.upper → d.up ≡ head_of ups d.link.lower
       → Raises Down downs downs' → Raises Up ups ups' → (d.alive ≡ true → length slots < head_of downs' d.link.upper)
@@ -304,11 +305,11 @@ raised_by : (b : Bool) (n h h' : ℕ) {P : Type 0} → Decides b P → h' ≡ co
 raised_by true n h h' d e = inr (omega (arith, e), d.0 refl)
 raised_by false n h h' d e = inl e
 
-pub raised : (old new : List (ℕ × ℕ)) (item n : ℕ) → ((q : ℕ) → head_of new q ≡ cond (item == q) (n + 1) (head_of old q)) → (q : ℕ)
+pub raised : (old new : HeadLists) (item n : ℕ) → ((q : ℕ) → head_of new q ≡ cond (item == q) (n + 1) (head_of old q)) → (q : ℕ)
     → (head_of new q ≡ head_of old q) ⊎ ((head_of new q ≡ suc n) × (item ≡ q))
 raised old new item n put q = raised_by (item == q) n (head_of old q) (head_of new q) (Decides-eqb item q) (put q)
 
-pub raised_here : (old new : List (ℕ × ℕ)) (item n : ℕ) → ((q : ℕ) → head_of new q ≡ cond (item == q) (n + 1) (head_of old q)) → n < head_of new item
+pub raised_here : (old new : HeadLists) (item n : ℕ) → ((q : ℕ) → head_of new q ≡ cond (item == q) (n + 1) (head_of old q)) → n < head_of new item
 raised_here old new item n put =
     omega (arith, put item ∙ ap (λ (b : Bool). cond b (n + 1) (head_of old item)) (alike item item refl))
 

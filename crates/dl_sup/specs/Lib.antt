@@ -1,4 +1,5 @@
 pub mod Links
+pub mod HeadLists
 pub mod Slots
 pub mod Searching
 pub mod Turning

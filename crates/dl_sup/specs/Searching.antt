@@ -7,7 +7,8 @@ use Rattle.dl_sup.specs.declared.front.Front.{Front}
 use Rattle.dl_sup.specs.declared.slot.Way.{Way}
 use Rattle.dl_sup.specs.declared.slot.Way.TheVariants.{Down, Up}
 use Rattle.dl_sup.specs.Links.{IsOver}
-use Rattle.dl_sup.specs.Slots.{near, far, older, head_of, slot_at, IsAlive, live}
+use Rattle.dl_sup.specs.HeadLists.{HeadLists, head_of}
+use Rattle.dl_sup.specs.Slots.{near, far, older, slot_at, IsAlive, live}
 
 abbrev pub items_of : List (ℕ × ℕ) → List ℕ
 items_of visits = map (λ v. v.0) visits
@@ -41,12 +42,12 @@ pub record IsFront (way : Way) (slots : List Slot) (f : Front) : Type 0 where
 abbrev pub work : List Slot → Front → ℕ
 work slots f = (length slots + 1 - f.next) * (length slots + 1) + f.cursor
 
-pub record Begins (item : ℕ) (heads : List (ℕ × ℕ)) (f : Front) : Type 0 where
+pub record Begins (item : ℕ) (heads : HeadLists) (f : Front) : Type 0 where
   pub visits : f.visits ≡ (item, 0) ∷ []
   pub next : f.next ≡ 0
   pub cursor : f.cursor ≡ head_of heads item
 
-pub record Turns (heads : List (ℕ × ℕ)) (old new : Front) : Type 0 where
+pub record Turns (heads : HeadLists) (old new : Front) : Type 0 where
   pub visits : new.visits ≡ old.visits
   pub next : new.next ≡ old.next + 1
   pub cursor : new.next < length new.visits → new.cursor ≡ head_of heads (item_at new.visits new.next)

@@ -1,12 +1,12 @@
 -- Pairs at places that never move.
-use Rattle.std.specs.Prelude.{◌≡◌, ℕ, suc, ◌<◌, ◌≤◌, true, false, List, ◌==◌, Option, Some, map, filter, length, get_or}
-use Rattle.std.specs.Option.{unwrap_or}
+use Rattle.std.specs.Prelude.{◌≡◌, ℕ, suc, ◌<◌, ◌≤◌, true, false, List, Option, Some, map, filter, length, get_or}
 use Rattle.std.specs.Map.{lookup}
 use Rattle.dl_sup.specs.declared.link.Link.{Link}
 use Rattle.dl_sup.specs.declared.slot.Slot.{Slot}
 use Rattle.dl_sup.specs.declared.slot.Way.{Way}
 use Rattle.dl_sup.specs.declared.slot.Way.TheVariants.{Down, Up}
 use Rattle.dl_sup.specs.Links.{link, same_link}
+use Rattle.dl_sup.specs.HeadLists.{HeadLists, head_of}
 
 abbrev pub near : Way → Slot → ℕ
 near Down s = s.link.upper
@@ -23,9 +23,6 @@ older Up s = s.up
 abbrev pub place_of : List (Link × ℕ) → Link → Option ℕ
 place_of places q = lookup (same_link q) places
 
-abbrev pub head_of : List (ℕ × ℕ) → ℕ → ℕ
-head_of heads item = unwrap_or (lookup (λ k. item == k) heads) 0
-
 -- past the end stands a pair that is not there
 abbrev pub no_slot : Slot
 no_slot = record { link = link 0 0; alive = false; down = 0; up = 0 }
@@ -41,7 +38,7 @@ abbrev pub live : List Slot → List Link
 live slots = map (λ s. s.link) (filter (λ s. s.alive) slots)
 
 -- each pair of an item is on its chain
-pub record IsChained (way : Way) (slots : List Slot) (heads : List (ℕ × ℕ)) : Type 0 where
+pub record IsChained (way : Way) (slots : List Slot) (heads : HeadLists) : Type 0 where
   pub begins : (t : ℕ) → IsAlive slots t → t < head_of heads (near way (slot_at slots t))
   pub goes_on : (s t : ℕ) → t < s → s < length slots → IsAlive slots t → near way (slot_at slots t) ≡ near way (slot_at slots s)
       → t < older way (slot_at slots s)
@@ -51,7 +48,7 @@ pub record IsChained (way : Way) (slots : List Slot) (heads : List (ℕ × ℕ))
   pub falls : (s : ℕ) → s < length slots → older way (slot_at slots s) ≤ s
 
 -- each pair is found at its place, and on the chains of its two items
-pub record IsKept (slots : List Slot) (places : List (Link × ℕ)) (downs ups : List (ℕ × ℕ)) : Type 0 where
+pub record IsKept (slots : List Slot) (places : List (Link × ℕ)) (downs ups : HeadLists) : Type 0 where
   pub found : (t : ℕ) → IsAlive slots t → place_of places (slot_at slots t).link ≡ Some t
   pub below : IsChained Down slots downs
   pub over : IsChained Up slots ups

@@ -1,7 +1,8 @@
 //! One end of a search along pairs.
 
 ghost use Rattle.std.specs.Prelude.{◌≡◌, ℕ, ◌+◌, ◌<◌, ◌≤◌, [], ◌∷◌, ◌++◌, OnOk, OnErr, IfOk, MatchOption, length};
-ghost use Rattle.dl_sup.specs.Slots.{head_of, IsChained};
+ghost use Rattle.dl_sup.specs.HeadLists.{head_of};
+ghost use Rattle.dl_sup.specs.Slots.{IsChained};
 ghost use Rattle.dl_sup.specs.Searching.{item_at, Follows, IsFront, Begins, Turns, work};
 
 use crate::heads::Heads;

@@ -1,7 +1,8 @@
 //! Ranks of items along which pairs rise, by counting the pairs above each item.
 
 ghost use Rattle.std.specs.Prelude.{◌≡◌, ℕ, ◌<◌, IsTrue, true};
-ghost use Rattle.dl_sup.specs.Slots.{head_of, IsAlive, IsChained, slot_at};
+ghost use Rattle.dl_sup.specs.HeadLists.{head_of};
+ghost use Rattle.dl_sup.specs.Slots.{IsAlive, IsChained, slot_at};
 
 use crate::heads::Heads;
 use crate::slot::{Slot, Way};
@@ -22,14 +23,14 @@ struct Ranking {
 pub(crate) fn rank(alloc: Global, slots: &[Slot], downs: &Heads) -> Result<Heads, Memory>
     requires { IsChained Way.Down slots.now downs.now }
 {
+    let above = count(alloc, slots)?;
+    // An item may be entered before smaller ones: there is a place for each from the start.
+    let width = above.width().max(downs.width());
     let mut ranking = Ranking {
-        above: Heads::make(alloc),
-        ranks: Heads::make(alloc),
+        above,
+        ranks: Heads::zeros(alloc, width)?,
         entered: Vec::new(alloc),
     };
-    for slot in slots {
-        count(&mut ranking, slot)?;
-    }
     for slot in slots {
         enter(&mut ranking, slot.link.upper)?;
     }
@@ -44,13 +45,16 @@ pub(crate) fn rank(alloc: Global, slots: &[Slot], downs: &Heads) -> Result<Heads
     Ok(ranks)
 }
 
-/// Counts a pair above its lower item.
-fn count(ranking: &mut Ranking, slot: &Slot) -> Result<(), Memory> {
-    if slot.alive {
-        let above = ranking.above.get(slot.link.lower);
-        ranking.above.put(slot.link.lower, above.saturating_add(1))?;
+/// How many pairs are above each item.
+fn count(alloc: Global, slots: &[Slot]) -> Result<Heads, Memory> {
+    let mut above = Heads::make(alloc);
+    for slot in slots {
+        if slot.alive {
+            let pairs = above.get(slot.link.lower);
+            above.put(slot.link.lower, pairs.saturating_add(1))?;
+        }
     }
-    Ok(())
+    Ok(above)
 }
 
 /// Enters an item, if it is new and no pair above it is left.

@@ -50,6 +50,22 @@ fn pairs_come_at_once(rt: HostRuntime) -> Result<(), Fail> {
 }
 
 #[test]
+fn items_lie_far_apart(rt: HostRuntime) -> Result<(), Fail> {
+    let mut order = Order::make(rt.alloc());
+    assert!(rt; order.add(1_000_000_000_000_000_000, 5).is_ok());
+    assert!(rt; order.add(5, 1_000_000_000_000).is_ok());
+    assert!(rt; order.add(1_000_000_000_000, 300).is_ok());
+    for at in 0..300usize {
+        assert!(rt; order.add(300 + at, 301 + at).is_ok());
+    }
+    match order.add(600, 1_000_000_000_000_000_000) {
+        Err(SupStop::Cycle(track)) => assert_eq!(rt; track.len(), 304),
+        _ => return Err("the chain is closed".into()),
+    }
+    Ok(())
+}
+
+#[test]
 fn a_chain_grows_from_its_top(rt: HostRuntime) -> Result<(), Fail> {
     let mut order = Order::make(rt.alloc());
     for at in 0..100_000usize {

@@ -1,5 +1,6 @@
 use Rattle.std.proofs.Common.{ℕ, ◌<◌}
-use Rattle.dl_sup.specs.Slots.{head_of, slot_at, IsAlive}
+use Rattle.dl_sup.specs.HeadLists.{head_of}
+use Rattle.dl_sup.specs.Slots.{slot_at, IsAlive}
 use Rattle.dl_sup.proofs.ranking.rises.Given as goal
 
 abbrev pub invariant-loop-slot : goal.invariant-loop-slot

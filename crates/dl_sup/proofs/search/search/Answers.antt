@@ -1,6 +1,7 @@
 use Rattle.std.proofs.Common.{◌≡◌, ◌≢◌, ℕ, List, inl, inr, sym, ap, subst, ◌∙◌}
 use Rattle.std.specs.Prelude.{Contains}
 use Rattle.dl_base.proofs.Members.{only}
+use Rattle.dl_sup.specs.HeadLists.{HeadLists}
 use Rattle.dl_sup.specs.declared.slot.Way.TheVariants.{Down, Up}
 use Rattle.dl_sup.specs.declared.front.Front.{Front}
 use Rattle.dl_sup.specs.Slots.{live}
@@ -10,10 +11,10 @@ use Rattle.dl_sup.proofs.Fronts.{front_begun}
 use Rattle.dl_sup.proofs.Walks.{met_walk, closed_below, closed_above, has_first}
 use Rattle.dl_sup.proofs.search.search.Goals as goal
 
-first_of : (item : ℕ) (heads : List (ℕ × ℕ)) (f : Front) → Begins item heads f → item_at f.visits 0 ≡ item
+first_of : (item : ℕ) (heads : HeadLists) (f : Front) → Begins item heads f → item_at f.visits 0 ≡ item
 first_of item heads f b = ap (λ (vs : List (ℕ × ℕ)). item_at vs 0) b.visits
 
-lacks : (item other : ℕ) (heads : List (ℕ × ℕ)) (f : Front) → Begins item heads f → item ≢ other → ¬ Contains (items_of f.visits) other
+lacks : (item other : ℕ) (heads : HeadLists) (f : Front) → Begins item heads f → item ≢ other → ¬ Contains (items_of f.visits) other
 lacks item other heads f b differ m =
     differ (sym (only item other (subst (λ (vs : List (ℕ × ℕ)). Contains (items_of vs) other) b.visits m)))
 

@@ -1,6 +1,7 @@
 use Rattle.std.proofs.Common.{◌≡◌, ℕ, false, Some, List, get_or, set, refl, sym, ap, subst, ◌∙◌}
 use Rattle.std.specs.Prelude.{filter, not, Contains}
 use Rattle.std.proofs.lemmas.List.{get_or_read}
+use Rattle.dl_sup.specs.HeadLists.{HeadLists}
 use Rattle.dl_sup.specs.declared.link.Link.{Link}
 use Rattle.dl_sup.specs.declared.slot.Slot.{Slot}
 use Rattle.dl_sup.specs.Links.{same_link}
@@ -9,7 +10,7 @@ use Rattle.dl_sup.proofs.LinkLemmas.{same_link_same, not_false}
 use Rattle.dl_sup.proofs.Slots.{KeepsSlots-gone, IsKept-kept, dead_there, filter-live_set, none_same, live_from, found_has}
 use Rattle.dl_sup.proofs.table.Table.drop_pair.Goals as goal
 
-module _ (slots : List Slot) (places : List (Link × ℕ)) (downs ups : List (ℕ × ℕ)) (h : IsKept slots places downs ups) (pair : Link) (at : ℕ) (was : Slot)
+module _ (slots : List Slot) (places : List (Link × ℕ)) (downs ups : HeadLists) (h : IsKept slots places downs ups) (pair : Link) (at : ℕ) (was : Slot)
     (found : IsFoundAt slots pair at) (value : was ≡ get_or slots at was) where
   read : was ≡ slot_at slots at
   read = get_or_read slots at was found.within value no_slot

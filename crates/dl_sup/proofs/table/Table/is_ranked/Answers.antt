@@ -2,7 +2,8 @@ use Rattle.std.proofs.Common.{◌<◌, List, ap, subst, ◌∙◌}
 use Rattle.dl_base.specs.Paths.{HasCycle}
 use Rattle.dl_sup.specs.declared.link.Link.{Link}
 use Rattle.dl_sup.specs.Links.{IsOver, link}
-use Rattle.dl_sup.specs.Slots.{head_of, live}
+use Rattle.dl_sup.specs.HeadLists.{head_of}
+use Rattle.dl_sup.specs.Slots.{live}
 use Rattle.dl_sup.proofs.Slots.{live_from}
 use Rattle.dl_sup.proofs.Cycles.{ranked_acyclic}
 use Rattle.dl_sup.proofs.table.Table.is_ranked.Goals as goal

@@ -3,7 +3,8 @@ use Rattle.std.specs.Prelude.{Contains}
 use Rattle.std.proofs.lemmas.List.{get_or_read, get_or_push, set_at}
 use Rattle.dl_sup.specs.declared.link.Link.{Link}
 use Rattle.dl_sup.specs.declared.slot.Slot.{Slot}
-use Rattle.dl_sup.specs.Slots.{place_of, head_of, slot_at, no_slot, live, IsKept}
+use Rattle.dl_sup.specs.HeadLists.{head_of}
+use Rattle.dl_sup.specs.Slots.{place_of, slot_at, no_slot, live, IsKept}
 use Rattle.dl_sup.proofs.LinkLemmas.{same_link_same, same_link_apart}
 use Rattle.dl_sup.proofs.Slots.{IsKept-pushed, raised, raised_here, live_alive, live_has}
 use Rattle.dl_sup.proofs.table.Table.put.Goals as goal
@@ -13,7 +14,7 @@ invariant_of-self-in_err-put c =
     let d : Slot = record { link = c.args.pair; alive = false; down = c.get.result; up = c.get-2.result } in
     subst (λ (xs : List Slot). IsKept xs c.self.inside.places c.put.new.self c.self.inside.ups) (sym c.in_ok-push.ensures.items)
     (IsKept-pushed c.self.inside.slots.items d c.self.inside.places c.self.inside.places c.self.inside.downs c.self.inside.ups c.put.new.self c.self.inside.ups c.self.invariant
-    (λ t a. refl) (λ a. absurd (true≢false (sym a))) c.get.ensures c.get-2.ensures (λ q. inl (ap (λ (hs : List (ℕ × ℕ)). head_of hs q) c.in_err-put.ensures.kept)) (λ q. inl refl)
+    (λ t a. refl) (λ a. absurd (true≢false (sym a))) c.get.ensures c.get-2.ensures (λ q. inl (c.in_err-put.ensures.kept q)) (λ q. inl refl)
     (λ a. absurd (true≢false (sym a))) (λ a. absurd (true≢false (sym a))))
 
 pub invariant_of-self-in_err-put-2 : goal.invariant_of-self-in_err-put-2
@@ -24,7 +25,7 @@ invariant_of-self-in_err-put-2 c =
     (IsKept-pushed c.self.inside.slots.items d c.self.inside.places c.self.inside.places c.self.inside.downs c.self.inside.ups c.put.new.self c.put-2.new.self c.self.invariant
     (λ t a. refl) (λ a. absurd (true≢false (sym a))) c.get.ensures c.get-2.ensures
     (raised c.self.inside.downs c.put.new.self c.args.pair.upper (length c.self.inside.slots.items) (subst (λ n. (q : ℕ) → head_of c.put.new.self q ≡ cond (eqb c.args.pair.upper q) (n + 1) (head_of c.self.inside.downs q)) at c.in_ok-put.ensures.put))
-    (λ q. inl (ap (λ (hs : List (ℕ × ℕ)). head_of hs q) c.in_err-put-2.ensures.kept))
+    (λ q. inl (c.in_err-put-2.ensures.kept q))
     (λ a. absurd (true≢false (sym a))) (λ a. absurd (true≢false (sym a))))
 
 pub invariant_of-self-in_err-put-3 : goal.invariant_of-self-in_err-put-3
