@@ -53,7 +53,9 @@ impl Heads {
     }
 
     /// How many items stand in the plain list.
-    pub(crate) fn width(&self) -> usize {
+    pub(crate) fn width(&self) -> usize
+        ensures { result ≡ length self.now.near }
+    {
         self.near.len()
     }
 
@@ -75,6 +77,7 @@ impl Heads {
             self.write(item, head);
             return Ok(());
         }
+        // Pairs that name new items in order name at most two each. The rest is for items whose pairs went.
         if item < self.puts.saturating_mul(4).saturating_add(64) {
             self.widen(item + 1)?;
             self.write(item, head);
