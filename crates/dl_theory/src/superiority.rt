@@ -149,6 +149,9 @@ impl Superiority {
     {
         let alloc = *self.pairs.allocator();
         let old = self.pairs.len();
+        if old == 0 {
+            return Superiority::load(alloc, pairs);
+        }
         let all = joined(alloc, self.pairs.as_slice(), pairs)?;
         let (extended, refused) = Superiority::load(alloc, all.as_slice())?;
         Ok((extended, later(refused, old)))

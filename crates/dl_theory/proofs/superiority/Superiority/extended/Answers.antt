@@ -1,7 +1,18 @@
-use Rattle.std.proofs.Common.{◌++◌, List, length, ap, ◌∙◌}
+use Rattle.std.proofs.Common.{◌≡◌, [], ◌∷◌, ◌++◌, List, length, ap, ◌∙◌, refl, subst, arith}
+use Rattle.std.specs.Prelude.{IfOk}
+use Rattle.dl_theory.specs.Superiority.{AddsAll}
 use Rattle.dl_theory.specs.declared.rule.Pair.{Pair}
 use Rattle.dl_theory.proofs.Loads.{behind_as}
 use Rattle.dl_theory.proofs.superiority.Superiority.extended.Goals as goal
+
+none_of : (ps : List Pair) → length ps ≡ 0 → [] ≡ ps
+none_of [] h = refl
+none_of (p ∷ ps) h = cc
+
+pub returns-then-old-eq0 : goal.returns-then-old-eq0
+returns-then-old-eq0 c =
+    subst (λ (ps : List Pair). IfOk c.load.result (λ r. AddsAll ps r.0 c.args.pairs.now r.1))
+    (none_of c.args.self.now (omega (arith, c.len-old.ensures.len, ap length c.self.view_is, c.if-old-eq0.true))) c.load.ensures
 
 pub later-requires : goal.later-requires
 later-requires c =
