@@ -13,6 +13,6 @@ after h byte = record { mixed = ((h.mixed * 0x9e37_79b9_7f4a_7c15) % 2 ^ 64 + h.
 abbrev pub after_all : NearHasher → List ℕ → NearHasher
 after_all = fold after
 
--- the upper half of what is mixed, and the last byte
+-- the upper half of what is mixed; the last byte moves it by a few places, and changes the eight bits that are kept as a tag
 abbrev pub place : NearHasher → ℕ
-place h = ((h.mixed * 0xd6e8_feb8_6659_fd93) % 2 ^ 64) / 2 ^ 32 + h.last
+place h = ((h.mixed * 0xd6e8_feb8_6659_fd93) % 2 ^ 64) / 2 ^ 32 + h.last * 2 ^ 24 + h.last / 2

@@ -12,8 +12,11 @@ const STEP: u64 = 0x9e37_79b9_7f4a_7c15;
 
 const SPREAD: u64 = 0xd6e8_feb8_6659_fd93;
 
-/// A hasher that gives what differs in its last byte alone places beside each other. Most labels and atoms come in such runs, and
-/// what lies near is in the cache: a look-up in a large table costs mostly the wait for memory. It has no secret, so whoever picks
+/// The lowest of the bits that a table keeps beside a place, to tell most keys apart without a look at them.
+const TAG: u64 = 0x100_0000;
+
+/// A hasher that gives what differs in its last byte alone places beside each other, with different tags. Most labels and atoms come
+/// in such runs, and what lies near is in the cache: a look-up in a large table costs mostly the wait for memory. It has no secret, so whoever picks
 /// the names can make them collide.
 #[derive(Clone, Copy)]
 pub struct NearHasher {
@@ -60,7 +63,7 @@ impl Hasher for NearHasher {
     ghost finish = { place };
 
     fn finish(&self) -> u64 {
-        (self.mixed.wrapping_mul(SPREAD) >> 32) + self.last as u64
+        (self.mixed.wrapping_mul(SPREAD) >> 32) + self.last as u64 * TAG + self.last as u64 / 2
     }
 
     fn write(&mut self, bytes: &[u8]) {
