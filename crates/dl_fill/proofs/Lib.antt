@@ -24,6 +24,8 @@ pub mod Listed
 pub mod Touching
 pub mod Starting
 pub mod Solving
+pub mod Everywhere
+pub mod Spanning
 pub mod Solved
 pub mod InOrder
 pub mod Derived

@@ -159,7 +159,7 @@ run_idle N b members s literals small wires gate rules w run y none none' =
 abbrev nothing : ℕ
 nothing = 0
 
-zeros : (n y : ℕ) → get_or (replicate n nothing) y 0 ≡ nothing
+pub zeros : (n y : ℕ) → get_or (replicate n nothing) y 0 ≡ nothing
 zeros zero y = refl
 zeros (suc n) zero = refl
 zeros (suc n) (suc y) = zeros n y

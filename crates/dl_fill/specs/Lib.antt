@@ -2,6 +2,7 @@ pub mod Counting
 pub mod Cells
 pub mod Counters
 pub mod Wires
+pub mod Spans
 pub mod Gates
 pub mod Before
 pub mod Prepared

@@ -1,6 +1,6 @@
 //! What the gates of literals read.
 
-ghost use Rattle.std.specs.Prelude.{◌≡◌, ◌<◌, ◌≤◌, ◌&&◌, ◌||◌, not, false, true, length};
+ghost use Rattle.std.specs.Prelude.{◌≡◌, ℕ, ◌<◌, ◌≤◌, ◌&&◌, ◌||◌, not, false, true, length, IsTrue};
 ghost use Rattle.dl_marks.specs.Marks.{places, marked};
 ghost use Rattle.dl_net.specs.Numbers as numbers;
 ghost use Rattle.dl_fill.specs.Before as before;
@@ -17,6 +17,14 @@ pub fn is_inside(region: &Region, number: usize) -> bool
     ensures { result ≡ before.is_inside region.now.members number }
 {
     region.holds(number)
+}
+
+/// Whether all numbers are in the region.
+pub fn is_everywhere(net: &Net, region: &Region) -> bool
+    requires { region.now.bound ≡ length net.now.names }
+    ensures { IsTrue result → (q : ℕ) → q < length net.now.names → before.is_inside region.now.members q ≡ true }
+{
+    region.len() == net.names()
 }
 
 /// Whether each literal that attacks it is refuted in the definite family.
@@ -85,8 +93,11 @@ pub fn outside_is_on(net: &Net, marks: &Marks, region: &Region, family: Family, 
     requires room { length net.now.names ≤ places marks.now }
     ensures { result ≡ before.outside_is_on net.now (before_of marks.now region.now) family rule }
 {
-    let tag = Tag { plus: true, family };
     let _names = net.names();
+    if is_everywhere(net, region) {
+        return true;
+    }
+    let tag = Tag { plus: true, family };
     let _len = net.back_len(Link::Uses, rule);
     let mut at = 0;
     while let Some(literal) = net.body_once(rule, at) {
@@ -110,11 +121,14 @@ pub fn outside_is_off(
     requires room { length net.now.names ≤ places marks.now }
     ensures { result ≡ before.outside_is_off net.now (before_of marks.now region.now) family rule }
 {
+    let _names = net.names();
+    if is_everywhere(net, region) {
+        return false;
+    }
     let tag = Tag {
         plus: false,
         family,
     };
-    let _names = net.names();
     let _len = net.back_len(Link::Uses, rule);
     let mut at = 0;
     while let Some(literal) = net.body_once(rule, at) {

@@ -134,6 +134,8 @@ impl Counters {
     }
 
     /// One hit on a node.
+    // Inlined always, as what a run does at each node: so no hit costs a call.
+    #[inline(always)]
     pub fn hit(&mut self, node: usize)
         requires { node < length self.old.need }
         ensures { self.new ≡ hit self.old node }
@@ -161,6 +163,7 @@ impl Counters {
     }
 
     /// The node waits for that many hits.
+    #[inline(always)]
     pub fn wait(&mut self, node: usize, hits: usize)
         requires node { node < length self.old.need }
         requires few { hits < 2 ^ 31 }
@@ -174,6 +177,7 @@ impl Counters {
     }
 
     /// The node, which waits for nothing, goes into the queue at once.
+    #[inline(always)]
     pub fn give(&mut self, node: usize)
         requires node { node < length self.old.need }
         requires idle { slice_index self.old.need node ≡ 0 }
@@ -185,6 +189,7 @@ impl Counters {
     }
 
     /// The node goes last into the queue, and waits no more.
+    #[inline(always)]
     fn append(&mut self, node: usize)
         requires node { node < length self.old.need }
         requires fresh { times node self.old.queue ≡ 0 }

@@ -10,12 +10,16 @@ ghost use Rattle.dl_fill.specs.Wires.{inner, inputs_at};
 ghost use Rattle.dl_fill.specs.Before.{is_inside};
 ghost use Rattle.dl_fill.specs.Gates.{hits_of, now_of};
 ghost use Rattle.dl_fill.specs.Prepared.{begun, one_if};
+ghost use Rattle.dl_fill.specs.Spans.{IsSpans};
 
 use crate::counters::Counters;
+use crate::spans::Spans;
 use crate::wire::{Gate, Wire};
 use dl_net::{Link, Net, Region};
 
 /// One more where it is inside.
+// Inlined always, as all below: so the wires and the width of a family are constants, and no node costs a call.
+#[inline(always)]
 fn more_if(count: usize, inside: bool) -> usize
     requires { count + 1 < 2 ^ 64 }
     ensures { result ≡ count + one_if inside }
@@ -23,14 +27,18 @@ fn more_if(count: usize, inside: bool) -> usize
     if inside { count + 1 } else { count }
 }
 
-/// How many literals of the body of a rule are in the region.
+/// How many literals of the body of a rule are in the region. Where that holds all numbers, nothing is read.
+#[inline(always)]
 fn inside_len(net: &Net, region: &Region, rule: usize) -> usize
     requires { region.now.bound ≡ length net.now.names }
     ensures len { result ≡ length (filter (is_inside region.now.members) (back net.now link_kind.Uses rule)) }
     ensures few { result < 2 ^ 26 }
 {
     let _names = net.names();
-    let _len = net.back_len(Link::Uses, rule);
+    let len = net.back_len(Link::Uses, rule);
+    if crate::attack::is_everywhere(net, region) {
+        return len;
+    }
     let mut count = 0;
     let mut at = 0;
     while let Some(literal) = net.body_once(rule, at) {
@@ -41,6 +49,7 @@ fn inside_len(net: &Net, region: &Region, rule: usize) -> usize
 }
 
 /// How many inputs a link gives.
+#[inline(always)]
 fn inner_len(net: &Net, region: &Region, link: Link, place: usize) -> usize
     requires { region.now.bound ≡ length net.now.names }
     ensures len { result ≡ length (inner net.now (is_inside region.now.members) link place) }
@@ -57,7 +66,8 @@ fn inner_len(net: &Net, region: &Region, link: Link, place: usize) -> usize
     }
 }
 
-/// How many inputs a node has.
+/// How many inputs some wires make of a node.
+#[inline(always)]
 fn inputs_len(
     net: &Net,
     region: &Region,
@@ -80,30 +90,34 @@ fn inputs_len(
     len
 }
 
-/// How many inputs a node has, where its gate asks for them.
+/// How many inputs a node has, where its gate asks for them. Of the wires those alone are read that lead to its kind.
+#[inline(always)]
 pub fn inputs_asked(
     net: &Net,
     region: &Region,
     width: usize,
     wires: &[Wire],
+    spans: &Spans,
     gate: Gate,
     kind: usize,
     place: usize,
 ) -> usize
     requires wires { length wires.now ≤ 32 }
+    requires spans { IsSpans (λ w. w.to) wires.now (length wires.now) spans.now }
     requires bound { region.now.bound ≡ length net.now.names }
     ensures hits { hits_of gate result ≡ hits_of gate (length (inputs_at net.now (is_inside region.now.members) width wires.now kind place)) }
     ensures now { now_of gate result ≡ now_of gate (length (inputs_at net.now (is_inside region.now.members) width wires.now kind place)) }
     ensures few { result < 2 ^ 31 }
 {
     match gate {
-        Gate::Every => inputs_len(net, region, width, wires, kind, place),
+        Gate::Every => inputs_len(net, region, width, spans.part(wires, kind), kind, place),
         Gate::Either => 0,
         Gate::Now => 0,
         Gate::Never => 0,
     }
 }
 
+#[inline(always)]
 fn hits(gate: Gate, inputs: usize) -> usize
     ensures { result ≡ hits_of gate inputs }
 {
@@ -115,6 +129,7 @@ fn hits(gate: Gate, inputs: usize) -> usize
     }
 }
 
+#[inline(always)]
 fn fires_now(gate: Gate, inputs: usize) -> bool
     ensures { result ≡ now_of gate inputs }
 {
@@ -127,6 +142,7 @@ fn fires_now(gate: Gate, inputs: usize) -> bool
 }
 
 /// The node begins to wait, or goes into the queue.
+#[inline(always)]
 pub fn begin(counters: &mut Counters, node: usize, gate: Gate, inputs: usize)
     requires node { node < length counters.old.need }
     requires few { inputs < 2 ^ 31 }

@@ -4,6 +4,7 @@
 //! the place of a literal or of a rule: kind `k` at place `i` is the number `i * width + k`. A wire leads from each node of one
 //! kind to the nodes of another kind where a link of the net leads. A node has a gate, which says whether it waits for all of
 //! its inputs or for one of them, or fires at once or never. Each node is popped at most once and each edge is walked once.
+//! A node reads only the part of the wires in which those of its kind stand (`spans.rt`).
 //!
 //! A fill costs what its region touches: the literals of the region, the rules for and against them, and their edges. Only these
 //! nodes begin; a body literal outside the region is decided and read from its mark, so it is no input. The counters are clean
@@ -51,6 +52,7 @@ mod gate;
 mod needs;
 mod parts;
 mod queue;
+mod spans;
 mod touch;
 mod whole_run;
 mod wire;

@@ -7,12 +7,16 @@ ghost use Rattle.dl_net.specs.Counting.{times};
 ghost use Rattle.dl_fill.specs.Counters.{hit};
 ghost use Rattle.dl_fill.specs.Wires.{edges, through};
 ghost use Rattle.dl_fill.specs.Runs.{IsRunOut};
+ghost use Rattle.dl_fill.specs.Spans.{IsSpans};
 
 use crate::counters::Counters;
+use crate::spans::Spans;
 use crate::wire::Wire;
 use dl_net::{Link, Net};
 
 /// One hit for each number to which the link leads.
+// Inlined always, as all below: so the width of a family is a constant, and no node costs a division.
+#[inline(always)]
 fn send(net: &Net, width: usize, link: Link, from: usize, to: usize, counters: &mut Counters)
     requires { (y : ℕ) → 0 < times y (through width to (next net.now link from)) → y < length counters.old.need }
     ensures { counters.new ≡ fold hit counters.old (through width to (next net.now link from)) }
@@ -24,7 +28,8 @@ fn send(net: &Net, width: usize, link: Link, from: usize, to: usize, counters: &
     }
 }
 
-/// The hits of a node that has fired.
+/// The hits that some wires make of a node that has fired.
+#[inline(always)]
 fn fire(net: &Net, width: usize, wires: &[Wire], node: usize, counters: &mut Counters)
     requires width { 0 < width }
     requires inside { (y : ℕ) → 0 < times y (edges net.now width wires.now node) → y < length counters.old.need }
@@ -37,17 +42,37 @@ fn fire(net: &Net, width: usize, wires: &[Wire], node: usize, counters: &mut Cou
     }
 }
 
+/// The hits of a node that has fired. Of the wires those alone are read that lead from its kind.
+#[inline(always)]
+fn fire_kind(
+    net: &Net,
+    width: usize,
+    wires: &[Wire],
+    spans: &Spans,
+    node: usize,
+    counters: &mut Counters,
+)
+    requires width { 0 < width }
+    requires spans { IsSpans (λ w. w.from) wires.now (length wires.now) spans.now }
+    requires inside { (y : ℕ) → 0 < times y (edges net.now width wires.now node) → y < length counters.old.need }
+    ensures { counters.new ≡ fold hit counters.old (edges net.now width wires.now node) }
+{
+    fire(net, width, spans.part(wires, node % width), node, counters);
+}
+
 /// Fires the nodes of the queue until no more come.
+#[inline(always)]
 pub fn run(net: &Net, width: usize, wires: &[Wire], counters: &mut Counters)
     requires width { 0 < width }
     requires inside { (x y : ℕ) → x < length counters.old.need → 0 < times y (edges net.now width wires.now x) → y < length counters.old.need }
     requires queued { (x : ℕ) → 0 < times x counters.old.queue → x < length counters.old.need }
     ensures { IsRunOut (edges net.now width wires.now) counters.old counters.new }
 {
+    let spans = Spans::from(wires);
     let mut head = 0;
     let mut node = counters.first();
     while head < counters.len() {
-        fire(net, width, wires, node, counters);
+        fire_kind(net, width, wires, &spans, node, counters);
         head += 1;
         node = counters.after(node);
     }

@@ -5,6 +5,7 @@ ghost use Rattle.dl_net.specs.Counting.{times};
 ghost use Rattle.dl_net.specs.Numbers as numbers;
 ghost use Rattle.dl_fill.specs.Touched.{Touches, Grows};
 
+use crate::attack::is_everywhere;
 use dl_net::{Net, Region};
 
 /// Adds the rules with that head.
@@ -72,7 +73,7 @@ pub fn touch(net: &Net, region: &Region, rules: &mut Region)
     ensures touches { Touches net.now region.now.members rules.new.members }
     ensures bound { rules.new.bound ≡ rules.old.bound }
 {
-    if region.len() == net.names() {
+    if is_everywhere(net, region) {
         touch_all(net, rules);
     } else {
         touch_members(net, region, rules);

@@ -11,10 +11,12 @@ ghost use Rattle.dl_fill.specs.Before.{Before, before_of, is_inside};
 ghost use Rattle.dl_fill.specs.Wires.{inputs, edges, AreKinds};
 ghost use Rattle.dl_fill.specs.Prepared.{IsClean, Begins, nodes_at, all_nodes};
 ghost use Rattle.dl_fill.specs.Runs.{HasRun};
+ghost use Rattle.dl_fill.specs.Spans.{IsSpans};
 
 use crate::counters::Counters;
 use crate::gate::{begin, inputs_asked};
 use crate::queue::run;
+use crate::spans::Spans;
 use crate::touch::touch;
 use crate::wire::{Gate, Wire};
 use dl_marks::Marks;
@@ -50,11 +52,14 @@ impl Gates for NoGates {
 }
 
 /// The nodes of `count` kinds from `from` on, at a place, begin to wait, or go into the queue.
+// Inlined always, as what it calls: so the width of a family is a constant, and no node costs a division.
+#[inline(always)]
 fn begin_place<G: Gates>(
     gates: &G,
     net: &Net,
     width: usize,
     wires: &[Wire],
+    spans: &Spans,
     marks: &Marks,
     region: &Region,
     from: usize,
@@ -64,6 +69,7 @@ fn begin_place<G: Gates>(
 )
     requires kinds { from + count ≤ width }
     requires wires { length wires.now ≤ 32 }
+    requires spans { IsSpans (λ w. w.to) wires.now (length wires.now) spans.now }
     requires bound { region.now.bound ≡ length net.now.names }
     requires room { length net.now.names ≤ places marks.now }
     requires nodes { place * width + width ≤ length counters.old.need }
@@ -75,12 +81,13 @@ fn begin_place<G: Gates>(
     for k in 0..count {
         let kind = from + k;
         let gate = gates.gate(net, marks, region, kind, place);
-        let inputs = inputs_asked(net, region, width, wires, gate, kind, place);
+        let inputs = inputs_asked(net, region, width, wires, spans, gate, kind, place);
         begin(counters, place * width + kind, gate, inputs);
     }
 }
 
 /// The nodes of `count` kinds from `from` on, at each of the places, begin to wait, or go into the queue.
+#[inline(always)]
 fn begin_places<G: Gates>(
     gates: &G,
     net: &Net,
@@ -103,16 +110,18 @@ fn begin_places<G: Gates>(
     ensures { Begins (inputs net.now (is_inside region.now.members) width wires.now) (λ y. G.tells gates.now net.now (before_of marks.now region.now) (y % width) (y / width)) (all_nodes width from count all.now.members) counters.old counters.new }
 {
     let _len = all.len();
+    let spans = Spans::to(wires);
     let mut at = 0;
     while let Some(place) = all.at(at) {
         begin_place(
-            gates, net, width, wires, marks, region, from, count, place, counters,
+            gates, net, width, wires, &spans, marks, region, from, count, place, counters,
         );
         at += 1;
     }
 }
 
 /// Runs the counters of what the region touches until no more nodes fire. Kinds below `literals` are those of literals.
+#[inline(always)]
 pub fn solve<G: Gates>(
     gates: &G,
     net: &Net,

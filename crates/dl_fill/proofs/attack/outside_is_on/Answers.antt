@@ -4,6 +4,7 @@ use Rattle.dl_net.specs.Numbers.{back}
 use Rattle.dl_net.specs.declared.link.Link.TheVariants.{Uses}
 use Rattle.dl_fill.specs.Before.{tag_of, is_inside}
 use Rattle.dl_fill.proofs.Reading.{all_goes, all_stops, all_ends}
+use Rattle.dl_fill.proofs.Everywhere.{body_stands}
 use Rattle.dl_fill.proofs.Touching.{body_inside, within_at}
 use Rattle.dl_fill.proofs.attack.outside_is_on.Goals as goal
 
@@ -49,3 +50,9 @@ returns c =
     sym
     (c.loop-literal.invariant.rest
     ∙ all_ends (λ i. is_inside c.args.region.now.members i || marked c.args.marks.now (tag_of true c.args.family) i) (back c.args.net.now Uses c.args.rule) c.loop-literal.at (sym c.body_once.ensures ∙ c.in_default.is))
+
+pub returns-then-is_everywhere : goal.returns-then-is_everywhere
+returns-then-is_everywhere c =
+    sym
+    (body_stands c.args.net.now c.names-names.ensures.numbered c.args.region.now.members (c.is_everywhere.ensures c.if-is_everywhere.true) c.args.rule
+    (λ i. marked c.args.marks.now (tag_of true c.args.family) i))

@@ -4,6 +4,7 @@ use Rattle.dl_net.specs.Numbers.{back}
 use Rattle.dl_net.specs.declared.link.Link.TheVariants.{Uses}
 use Rattle.dl_fill.specs.Before.{is_inside}
 use Rattle.dl_fill.specs.Prepared.{one_if}
+use Rattle.dl_fill.proofs.Everywhere.{body_whole}
 use Rattle.dl_fill.proofs.Touching.{body_inside, within_at, filter_more, all_at, one_most}
 use Rattle.dl_fill.proofs.gate.inside_len.Goals as goal
 
@@ -28,3 +29,10 @@ returns-clause-len c =
     c.loop-literal.invariant.count
     ∙ ap (λ (ys : List ℕ). length (filter (is_inside c.args.region.now.members) ys))
     (all_at (back c.args.net.now Uses c.args.rule) c.loop-literal.at (sym c.body_once.ensures ∙ c.in_default.is))
+
+pub returns-then-is_everywhere-clause-len : goal.returns-then-is_everywhere-clause-len
+returns-then-is_everywhere-clause-len c =
+    c.back_len-len.ensures.len
+    ∙ ap length
+    (sym
+    (body_whole c.args.net.now c.names-names.ensures.numbered c.args.region.now.members (c.is_everywhere.ensures c.if-is_everywhere.true) c.args.rule))
