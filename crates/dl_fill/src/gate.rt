@@ -27,7 +27,7 @@ fn more_if(count: usize, inside: bool) -> usize
     if inside { count + 1 } else { count }
 }
 
-/// How many literals of the body of a rule are in the region. Where that holds all numbers, nothing is read.
+/// How many literals of the body of a rule are in the region. Where all numbers are, none of them is read.
 #[inline(always)]
 fn inside_len(net: &Net, region: &Region, rule: usize) -> usize
     requires { region.now.bound ≡ length net.now.names }

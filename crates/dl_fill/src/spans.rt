@@ -39,6 +39,7 @@ impl Spans {
         Spans::by(wires, false)
     }
 
+    /// Where the wires stand that lead to a kind, or from it.
     fn by(wires: &[Wire], to: bool) -> Spans
         ensures { IsSpans (side to) wires.now (length wires.now) result }
     {
@@ -66,7 +67,7 @@ impl Spans {
     }
 
     /// A part of the wires in which all those of the kind stand.
-    // Inlined always, as what reads it.
+    // Inlined always, as what reads it: so no node costs a call.
     #[inline(always)]
     pub fn part<'a>(&self, wires: &'a [Wire], kind: usize) -> &'a [Wire]
         requires { AreWithin (length wires.now) self.now }
