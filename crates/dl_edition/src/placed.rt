@@ -68,10 +68,14 @@ impl Ord for Placed<'_> {
     ghost matches_eq = { λ x y. refl };
 
     fn cmp(&self, other: &Self) -> Ordering {
-        match self.prefix.cmp(&other.prefix) {
-            Ordering::Less => Ordering::Less,
-            Ordering::Equal => self.literal.cmp(other.literal),
-            Ordering::Greater => Ordering::Greater,
+        // what is less is told by one comparison of numbers, so that a sort has no branch on it
+        if self.prefix == other.prefix {
+            return self.literal.cmp(other.literal);
+        }
+        if self.prefix < other.prefix {
+            Ordering::Less
+        } else {
+            Ordering::Greater
         }
     }
 }

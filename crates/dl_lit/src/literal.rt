@@ -20,6 +20,7 @@ pub struct Literal {
 impl Literal {
     ghost use Rattle.dl_lit.specs.Literal.{complement};
 
+    #[inline(always)]
     pub fn copy(&self) -> Result<Literal, Memory>
         ensures { IfOk result (λ copy. copy ≡ self.now) }
     {

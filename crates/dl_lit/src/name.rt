@@ -62,6 +62,7 @@ impl Name {
         Ok(Name { text })
     }
 
+    #[inline(always)]
     pub fn bytes(&self) -> &[u8]
         ensures bytes { result.now ≡ self.now }
         ensures spelled { IsTrue (is_name self.now) }
@@ -69,6 +70,7 @@ impl Name {
         self.text.as_slice()
     }
 
+    #[inline(always)]
     pub fn copy(&self) -> Result<Name, Memory>
         ensures { IfOk result (λ copy. copy ≡ self.now) }
     {

@@ -42,6 +42,8 @@ impl Short {
 
     /// Whether the lengths and all places are alike, also those behind the length: there `make` leaves zeros. As no turn ends the
     /// loop, and a constant says how many there are, it becomes a few instructions.
+    // always inlined, here and in names and literals: a copy or a look at a name is then a few instructions, and nothing goes through memory
+    #[inline(always)]
     fn is_alike(&self, other: &Short) -> bool
         ensures { IsTrue result → short_bytes self.now ≡ short_bytes other.now }
     {
@@ -52,6 +54,7 @@ impl Short {
         alike
     }
 
+    #[inline(always)]
     fn as_slice(&self) -> &[u8]
         ensures { result.now ≡ short_bytes self.now }
     {
@@ -71,6 +74,7 @@ impl Text {
         Ok(Text::Long(ArcSlice::from_slice(alloc, bytes)?))
     }
 
+    #[inline(always)]
     pub(crate) fn copy(&self) -> Result<Text, Memory>
         ensures { IfOk result (λ copy. text_bytes copy ≡ text_bytes self.now) }
     {
@@ -81,6 +85,7 @@ impl Text {
     }
 
     /// Whether both are short and alike; then their bytes are equal. Where they are not alike, the bytes may still be equal.
+    #[inline(always)]
     pub(crate) fn is_alike(&self, other: &Text) -> bool
         ensures { IsTrue result → text_bytes self.now ≡ text_bytes other.now }
     {
@@ -93,6 +98,7 @@ impl Text {
         }
     }
 
+    #[inline(always)]
     pub(crate) fn as_slice(&self) -> &[u8]
         ensures { result.now ≡ text_bytes self.now }
     {

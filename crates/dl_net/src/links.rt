@@ -8,6 +8,8 @@ use crate::net::Net;
 
 impl Net {
     /// To how many numbers a link leads.
+    // always inlined, as what it reads: a fill knows the link of each wire, and walks a row without a call
+    #[inline(always)]
     pub fn next_len(&self, link: Link, from: usize) -> usize
         ensures { result ≡ length (next self.now link from) }
     {
@@ -23,6 +25,7 @@ impl Net {
     }
 
     /// The number at a place of those to which a link leads.
+    #[inline(always)]
     pub fn next(&self, link: Link, from: usize, at: usize) -> usize
         requires { at < length (next self.now link from) }
         ensures { result ≡ slice_index (next self.now link from) at }
@@ -39,6 +42,7 @@ impl Net {
     }
 
     /// From how many numbers a link leads there.
+    #[inline(always)]
     pub fn back_len(&self, link: Link, to: usize) -> usize
         ensures len { result ≡ length (back self.now link to) }
         ensures few { result < 2 ^ 26 }
@@ -55,6 +59,7 @@ impl Net {
     }
 }
 
+#[inline(always)]
 fn count(number: Option<usize>) -> usize
     ensures { result ≡ length (option_to_list number) }
 {
@@ -64,6 +69,7 @@ fn count(number: Option<usize>) -> usize
     }
 }
 
+#[inline(always)]
 fn given(number: Option<usize>) -> usize
     requires { IsSome number }
     ensures { number ≡ Some result }

@@ -21,6 +21,8 @@ impl Net {
     }
 
     /// The at-th rule, in list order, with this literal in its body; `None` exactly where there are not so many.
+    // always inlined where a fill walks rows: see the links
+    #[inline(always)]
     pub fn uses(&self, number: usize, at: usize) -> Option<usize>
         ensures { result ≡ slice_get (places (body_row self.now) self.now.theory.rules number) at }
     {
@@ -103,12 +105,14 @@ impl Net {
         false
     }
 
+    #[inline(always)]
     pub(crate) fn uses_len(&self, number: usize) -> usize
         ensures { result ≡ length (places (body_row self.now) self.now.theory.rules number) }
     {
         self.index.uses_len(number)
     }
 
+    #[inline(always)]
     pub(crate) fn heads_len(&self, number: usize) -> usize
         ensures value { result ≡ length (places (head_row self.now) self.now.theory.rules number) }
         ensures few { result < 2 ^ 26 }
@@ -117,6 +121,7 @@ impl Net {
     }
 
     /// The number of the head of a rule that is strict, or else can support it.
+    #[inline(always)]
     pub(crate) fn concluded(&self, rule: usize, strict: bool) -> Option<usize>
         ensures { option_to_list result ≡ row (concluded_row self.now strict) self.now.theory.rules rule }
     {
@@ -124,6 +129,7 @@ impl Net {
     }
 
     /// The number of what a rule's head attacks.
+    #[inline(always)]
     pub(crate) fn opposed(&self, rule: usize) -> Option<usize>
         ensures { option_to_list result ≡ row (opposes_row self.now) self.now.theory.rules rule }
     {
@@ -135,18 +141,21 @@ impl Net {
     }
 
     /// Whether a rule is there and can support its head.
+    #[inline(always)]
     pub(crate) fn supports(&self, rule: usize) -> bool
         ensures { result ≡ can_support (rule_at self.now rule).kind }
     {
         self.index.supports(rule)
     }
 
+    #[inline(always)]
     pub(crate) fn lower_at(&self, rule: usize, at: usize) -> Option<usize>
         ensures { result ≡ slice_get (row (lowers_row self.now) self.now.theory.rules rule) at }
     {
         self.index.lower_at(rule, at)
     }
 
+    #[inline(always)]
     pub(crate) fn lower_len(&self, rule: usize) -> usize
         ensures { result ≡ length (row (lowers_row self.now) self.now.theory.rules rule) }
     {
@@ -154,6 +163,7 @@ impl Net {
     }
 
     /// How many rules a rule defends its head against.
+    #[inline(always)]
     pub(crate) fn defended_len(&self, rule: usize) -> usize
         ensures { result ≡ length (row (defends_row self.now) self.now.theory.rules rule) }
     {
@@ -164,6 +174,7 @@ impl Net {
         }
     }
 
+    #[inline(always)]
     pub(crate) fn body_width(&self, rule: usize) -> usize
         ensures width { result ≡ length (row (body_row self.now) self.now.theory.rules rule) }
         ensures few { result < 2 ^ 26 }
@@ -180,6 +191,7 @@ impl Net {
     }
 
     /// How many rules have a head that attacks the literal.
+    #[inline(always)]
     pub(crate) fn opposers_len(&self, number: usize) -> usize
         ensures value { result ≡ length (places (opposes_row self.now) self.now.theory.rules number) }
         ensures few { result < 2 ^ 26 }
