@@ -86,6 +86,55 @@ fn write_line<S: Sink>(
     write_all(sink, b"\n")
 }
 
+/// How many conclusions are measured together.
+const BLOCK: usize = 32;
+
+/// How many bytes go to a sink between two flushes, where no block takes more.
+const HELD_BACK: usize = 61_440;
+
+/// About how many bytes the lines of a block take.
+fn block_len(conclusions: &Concluded, from: usize) -> usize {
+    let to = from.saturating_add(BLOCK).min(conclusions.len());
+    let mut len: usize = 0;
+    for at in from..to {
+        let (literal, _) = conclusions.at(at);
+        let mode = match &literal.mode {
+            None => 0,
+            Some(mode) => mode.bytes().len(),
+        };
+        len = len
+            .saturating_add(mode)
+            .saturating_add(literal.atom.bytes().len());
+    }
+    len.saturating_add(BLOCK * 8)
+}
+
+/// Where a block begins, flushes if its lines may not fit behind the bytes that are held back. Says how many are held back once the
+/// block is written.
+// In their order literals lie anywhere in memory. Measuring a block waits for all of them at once, where each line would wait for its own.
+#[inline(always)]
+fn begin_block<S: Sink>(
+    sink: &mut S,
+    conclusions: &Concluded,
+    at: usize,
+    held: usize,
+) -> Result<usize, Failed>
+    ensures bytes { S.written sink.new ≡ S.written sink.old }
+    ensures cause { HasCause (S.faults sink.old) (S.faults sink.new) result }
+    ensures name { S.name sink.new ≡ S.name sink.old }
+{
+    if at % BLOCK != 0 {
+        return Ok(held);
+    }
+    let len = block_len(conclusions, at);
+    let held = held.saturating_add(len);
+    if held <= HELD_BACK {
+        return Ok(held);
+    }
+    sink.flush()?;
+    Ok(len)
+}
+
 fn write_conclusions<S: Sink>(
     sink: &mut S,
     family: Family,
@@ -95,7 +144,9 @@ fn write_conclusions<S: Sink>(
     ensures cause { HasCause (S.faults sink.old) (S.faults sink.new) result }
     ensures name { S.name sink.new ≡ S.name sink.old }
 {
+    let mut held = 0;
     for at in 0..conclusions.len() {
+        held = begin_block(sink, conclusions, at, held)?;
         let (literal, verdict) = conclusions.at(at);
         write_line(sink, family, verdict, literal)?;
     }
