@@ -1,6 +1,6 @@
 -- What the nodes of the definite family mean, and that at the end of a run exactly what follows has fired.
-use Rattle.std.proofs.Common.{◌≡◌, ℕ, zero, suc, ◌+◌, ◌*◌, ◌/◌, ◌%◌, ◌<◌, ◌≤◌, Bool, true, false, List, [], length, inl, inr, sym, subst, ap, refl, ◌∙◌, arith, true≢false}
-use Rattle.std.specs.Prelude.{Contains, nat_lt, not, MatchOption}
+use Rattle.std.proofs.Common.{◌≡◌, ℕ, zero, suc, ◌+◌, ◌*◌, ◌/◌, ◌%◌, ◌<◌, ◌≤◌, Bool, ◌&&◌, true, false, cond, List, [], ◌∷◌, length, inl, inr, sym, subst, ap, refl, ◌∙◌, arith, true≢false}
+use Rattle.std.specs.Prelude.{Contains, IsTrue, nat_lt, not, MatchOption}
 use Rattle.std.specs.Bool.{Decides}
 use Rattle.std.proofs.lemmas.Bool.{ltb-true}
 use Rattle.std.proofs.lemmas.Map.Made.{is_member-Decides}
@@ -11,14 +11,14 @@ use Rattle.dl_lit.specs.declared.literal.Family.{Family}
 use Rattle.dl_lit.specs.declared.literal.Family.TheVariants.{Definite, Blocking, Propagating, Support}
 use Rattle.dl_lit.specs.Literal.{tagged}
 use Rattle.dl_lit.specs.Order.{literal_eq-Decides}
-use Rattle.dl_theory.specs.Lists.{IsStrictFor}
+use Rattle.dl_theory.specs.Lists.{IsStrictFor, is_strict}
 use Rattle.dl_theory.specs.Conditions.{IsOn, IsOff, Condition, Meets}
 use Rattle.dl_theory.specs.Derivations.{Follows}
 use Rattle.dl_theory.specs.Verdicts.{needs}
 use Rattle.dl_theory.proofs.Closure.{follows_step}
 use Rattle.dl_theory.proofs.Within.{IsClosedUnder}
 use Rattle.dl_net.specs.Counting.{times}
-use Rattle.dl_net.specs.Numbers.{NetLists, IsNumbered, literal_at, rule_at, number, is_fact}
+use Rattle.dl_net.specs.Numbers.{NetLists, IsNumbered, no_rule, literal_at, rule_at, number, proves_row, next, is_fact}
 use Rattle.dl_net.specs.declared.link.Link.TheVariants.{Proves}
 use Rattle.dl_fill.specs.Counters.{CounterLists}
 use Rattle.dl_fill.specs.Wires.{inputs, inputs_at, AreKinds, IsLive}
@@ -28,6 +28,7 @@ use Rattle.dl_fill.specs.Gates.{Passes}
 use Rattle.dl_fill.specs.Runs.{HasRun}
 use Rattle.dl_marks.specs.Marks.{Marking}
 use Rattle.dl_net.specs.Region.{Numbers}
+use Rattle.dl_fill.specs.declared.wire.Gate.{Gate}
 use Rattle.dl_fill.specs.declared.wire.Gate.TheVariants.{Never}
 use Rattle.dl_fill.specs.Before.{Before, is_inside, before_of, IsExactOutside}
 use Rattle.dl_fill.specs.Prepared.{is_touched_at}
@@ -35,6 +36,7 @@ use Rattle.dl_fill.specs.Touched.{Touches}
 use Rattle.dl_fill.proofs.Touching.{heads_has}
 use Rattle.dl_fill.specs.Meanings.{HasTag, IsOnAt, IsOffAt}
 use Rattle.dl_fill.specs.Filled.{IsSolved, HasFired, either_kind}
+use Rattle.dl_fill.proofs.Rows.{row_inside}
 use Rattle.dl_fill.proofs.Links.{proves_listing}
 use Rattle.dl_fill.proofs.Gating.{IsGotOutside, right_outside, known, open_gate, on_sound, off_sound, on_passes, off_passes}
 use Rattle.dl_fill.proofs.Nodes.{kind_of, place_of}
@@ -43,7 +45,7 @@ use Rattle.dl_fill.proofs.Ruled.{concluded_sound, concluded_passes, refuted_soun
 use Rattle.dl_fill.proofs.Solved as solved
 use Rattle.dl_fill.proofs.Exact.{fired_means, fires, literal_touched, rule_touched, touched_literal}
 use Rattle.dl_fill.proofs.Derived.{IsFamily, Knows}
-use Rattle.dl_definite.specs.Definite.{definite_wires, definite_tags, definite_gate}
+use Rattle.dl_definite.specs.Definite.{definite_wires, definite_tags, rule_gate, definite_gate}
 
 pub definite_kinds : AreKinds 4 definite_wires
 definite_kinds = kinds_tested 4 definite_wires refl
@@ -77,6 +79,27 @@ kind f p = either_kind 0 1 p
 not_false : (b : Bool) → not b ≡ true → b ≡ false
 not_false true e = absurd (true≢false (sym e))
 not_false false e = refl
+
+one_if_so : (s : Bool) (n : ℕ) → nat_lt 0 (length (cond s (n ∷ []) [])) ≡ s
+one_if_so true n = refl
+one_if_so false n = refl
+
+-- a rule is strict where it leads to a literal that it proves
+pub proves_where_strict : (N : NetLists) (r : ℕ) → r < length N.theory.rules → nat_lt 0 (length (next N Proves r)) ≡ is_strict (rule_at N r).kind
+proves_where_strict N r lt =
+    ap (λ (xs : List ℕ). nat_lt 0 (length xs)) (row_inside (proves_row N) N.theory.rules r no_rule lt)
+    ∙ one_if_so (is_strict (rule_at N r).kind) (number N (rule_at N r).head)
+
+-- a gate that is open below a bound, kept shut where the rule is not strict
+open_strict : (P : ℕ → Type 0) (a s : Bool) (g : Gate) (xs : List ℕ) → Passes P (cond (a && s) g Never) xs → Passes P (cond a g Never) xs
+open_strict P true true g xs h = h
+open_strict P true false g xs h = absurd h
+open_strict P false s g xs h = absurd h
+
+close_strict : (P : ℕ → Type 0) (a s : Bool) (g : Gate) (xs : List ℕ) → s ≡ true → Passes P (cond a g Never) xs → Passes P (cond (a && s) g Never) xs
+close_strict P true true g xs e h = h
+close_strict P true false g xs e h = absurd (true≢false (sym e))
+close_strict P false s g xs e h = absurd h
 
 module _ (N : NetLists) (numbered : IsNumbered N) (m : Marking) (region : Numbers) where
   abbrev b : Before
@@ -126,10 +149,15 @@ module _ (N : NetLists) (numbered : IsNumbered N) (m : Marking) (region : Number
         (IsOff got Definite) q (not (is_fact N q)) (Condition N.theory got false Definite (literal_at N q))
         (λ lt e each. (λ fact. true≢false (sym ((fact_decides q).1 fact) ∙ not_false (is_fact N q) e), each)) (λ i m. at 3 i (omega arith) m) h in
         (here (omega arith), c.0, c.1)
-    concluded (suc (suc zero)) r here h = on_sound N numbered b Definite got outer (MeansNode got) 4 0 (omega arith) r (λ i m. (at 0 i (omega arith) m).1) h
-    concluded (suc (suc (suc zero))) r here h = off_sound N numbered b Definite got outer (MeansNode got) 4 1 (omega arith) r (λ i m. (at 1 i (omega arith) m).1) h
+    concluded (suc (suc zero)) r here h =
+        on_sound N numbered b Definite got outer (MeansNode got) 4 0 (omega arith) r (λ i m. (at 0 i (omega arith) m).1)
+        (open_strict (MeansNode got) (nat_lt r (length N.theory.rules)) (is_strict (rule_at N r).kind) (rule_gate N b 0 r) (inputs_at N inside 4 definite_wires 2 r) h)
+    concluded (suc (suc (suc zero))) r here h =
+        off_sound N numbered b Definite got outer (MeansNode got) 4 1 (omega arith) r (λ i m. (at 1 i (omega arith) m).1)
+        (open_strict (MeansNode got) (nat_lt r (length N.theory.rules)) (is_strict (rule_at N r).kind) (rule_gate N b 1 r) (inputs_at N inside 4 definite_wires 3 r) h)
     concluded (suc (suc (suc (suc k)))) r here h =
-        (open_gate (MeansNode got) (nat_lt r (length N.theory.rules)) Never (inputs_at N inside 4 definite_wires (suc (suc (suc (suc k)))) r) h).1
+        (open_gate (MeansNode got) (nat_lt r (length N.theory.rules) && is_strict (rule_at N r).kind) Never
+        (inputs_at N inside 4 definite_wires (suc (suc (suc (suc k)))) r) h).1
 
   -- nodes read as tagged literals, in a region that is enough by itself
   module _ (R : Literal → Type 0) (closed : IsClosedUnder N.theory (Contains (needs Definite)) R)
@@ -240,15 +268,19 @@ module _ (N : NetLists) (numbered : IsNumbered N) (m : Marking) (region : Number
       fired : (p : Bool) (q : ℕ) → is_inside region.members q ≡ true → HasTag N Got p Definite q → HasFired 4 (kind Definite) w p q
       fired = solved.fired N numbered region.members Ours ours_closed 4 filled kind w Definite refl
 
-      on_fires : (r : ℕ) → 0 < times r rules → IsOnAt N Got Definite r → Fired (r * 4 + 2)
-      on_fires r t m =
+      on_fires : (r : ℕ) → 0 < times r rules → IsTrue (is_strict (rule_at N r).kind) → IsOnAt N Got Definite r → Fired (r * 4 + 2)
+      on_fires r t strict m =
           passes 2 r (omega arith) (omega (arith, m.0, rules_fit)) (rule_touched 2 region.members rules 2 r (omega arith) t)
-          (on_passes N numbered b Definite outside Fired 4 0 (omega arith) r Got follows m (fired true))
+          (close_strict Fired (nat_lt r (length N.theory.rules)) (is_strict (rule_at N r).kind) (rule_gate N b 0 r)
+          (inputs_at N (is_inside region.members) 4 definite_wires 2 r) strict
+          (on_passes N numbered b Definite outside Fired 4 0 (omega arith) r Got follows m (fired true)))
 
-      off_fires : (r : ℕ) → 0 < times r rules → IsOffAt N Got Definite r → Fired (r * 4 + 3)
-      off_fires r t m =
+      off_fires : (r : ℕ) → 0 < times r rules → IsTrue (is_strict (rule_at N r).kind) → IsOffAt N Got Definite r → Fired (r * 4 + 3)
+      off_fires r t strict m =
           passes 3 r (omega arith) (omega (arith, m.0, rules_fit)) (rule_touched 2 region.members rules 3 r (omega arith) t)
-          (off_passes N numbered b Definite outside Fired 4 1 (omega arith) r Got follows m (fired false))
+          (close_strict Fired (nat_lt r (length N.theory.rules)) (is_strict (rule_at N r).kind) (rule_gate N b 1 r)
+          (inputs_at N (is_inside region.members) 4 definite_wires 3 r) strict
+          (off_passes N numbered b Definite outside Fired 4 1 (omega arith) r Got follows m (fired false)))
 
       strict_touched : (q : ℕ) → is_inside region.members q ≡ true → q < length N.names → (r : ℕ) → r < length N.theory.rules → IsStrictFor (literal_at N q) (rule_at N r) → 0 < times r rules
       strict_touched q here lt r inside strict = touches.for_members q (member q here) r (heads_has N q r inside (ap (number N) strict.0 ∙ numbered.distinct q lt))
@@ -259,12 +291,12 @@ module _ (N : NetLists) (numbered : IsNumbered N) (m : Marking) (region : Number
           passes 0 q (omega arith) (omega (arith, lt, names_fit)) (literal_touched 2 region.members rules 0 q (omega arith) (member q here))
           (concluded_passes N numbered Got Fired 4 2 (omega arith) IsStrictFor Proves (proves_listing N numbered) (IsOn Got Definite) q
           (is_fact N q) lt (elim h [ inl fact ↦ inl ((fact_decides q).1 fact) | inr some ↦ inr some ])
-          (λ r strict m. on_fires r (strict_touched q here lt r m.0 strict) m))
+          (λ r strict m. on_fires r (strict_touched q here lt r m.0 strict) strict.1 m))
       saturates Definite e false q here lt h =
           passes 1 q (omega arith) (omega (arith, lt, names_fit)) (literal_touched 2 region.members rules 1 q (omega arith) (member q here))
           (refuted_passes N numbered Got Fired 4 3 (omega arith) IsStrictFor Proves (proves_listing N numbered) (IsOff Got Definite) q
           (not (is_fact N q)) lt (no_fact q h.0) h.1
-          (λ r strict m. off_fires r (strict_touched q here lt r m.0 strict) m))
+          (λ r strict m. off_fires r (strict_touched q here lt r m.0 strict) strict.1 m))
       saturates Blocking e p q here lt h = absurd (true≢false (sym e))
       saturates Propagating e p q here lt h = absurd (true≢false (sym e))
       saturates Support e p q here lt h = absurd (true≢false (sym e))

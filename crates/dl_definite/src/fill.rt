@@ -3,7 +3,9 @@
 ghost use Rattle.std.specs.Prelude.{◌≡◌, ℕ, ◌*◌, ◌/◌, ◌+◌, ◌<◌, ◌≤◌, length, slice_index};
 ghost use Rattle.dl_lit.specs.declared.literal.Family.TheVariants as family;
 ghost use Rattle.dl_marks.specs.Marks.{places};
+ghost use Rattle.dl_theory.specs.Lists as lists;
 ghost use Rattle.dl_net.specs.Counting.{times};
+ghost use Rattle.dl_net.specs.Numbers.{rule_at};
 ghost use Rattle.dl_fill.specs.Idle.{IsIdle};
 ghost use Rattle.dl_fill.specs.Prepared.{all_nodes};
 ghost use Rattle.dl_fill.specs.Before.{before_of};
@@ -38,12 +40,22 @@ impl Gates for DefiniteGates {
             } else {
                 Gate::Never
             }
-        } else if place < net.rules_len() {
+        } else if place < net.rules_len() && is_strict(net, place) {
             gate_of_rule(net, marks, region, kind - 2, place)
         } else {
             Gate::Never
         }
     }
+}
+
+/// Whether a rule is strict.
+// A rule that is not leads to no node of this family, so its two nodes never begin to wait: nothing asks whether they fire.
+#[inline(always)]
+fn is_strict(net: &Net, rule: usize) -> bool
+    requires { rule < length net.now.theory.rules }
+    ensures { result ≡ lists.is_strict (rule_at net.now rule).kind }
+{
+    net.next_len(Link::Proves, rule) > 0
 }
 
 fn gate_of_rule(net: &Net, marks: &Marks, region: &Region, kind: usize, rule: usize) -> Gate
