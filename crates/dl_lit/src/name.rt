@@ -89,7 +89,7 @@ impl PartialEq for Name {
     ghost laws = { Prim.search (comparing, rules) };
 
     fn eq(&self, other: &Name) -> bool {
-        self.text.is_alike(&other.text) || self.bytes() == other.bytes()
+        self.bytes() == other.bytes()
     }
 }
 

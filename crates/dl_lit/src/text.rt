@@ -1,6 +1,6 @@
 //! The bytes of a name. Most names are short: their bytes stand in the name itself, and long ones are shared.
 
-ghost use Rattle.std.specs.Prelude.{◌≡◌, ◌≤◌, IfOk, IsTrue, length};
+ghost use Rattle.std.specs.Prelude.{◌≡◌, ◌≤◌, IfOk, length};
 
 use dl_base::Memory;
 use std::alloc::Global;
@@ -40,20 +40,7 @@ impl Short {
         }
     }
 
-    /// Whether the lengths and all places are alike, also those behind the length: there `make` leaves zeros. As no turn ends the
-    /// loop, and a constant says how many there are, it becomes a few instructions.
     // always inlined, here and in names and literals: a copy or a look at a name is then a few instructions, and nothing goes through memory
-    #[inline(always)]
-    fn is_alike(&self, other: &Short) -> bool
-        ensures { IsTrue result → short_bytes self.now ≡ short_bytes other.now }
-    {
-        let mut alike = self.len == other.len;
-        for at in 0..SHORT {
-            alike &= self.bytes[at] == other.bytes[at];
-        }
-        alike
-    }
-
     #[inline(always)]
     fn as_slice(&self) -> &[u8]
         ensures { result.now ≡ short_bytes self.now }
@@ -81,20 +68,6 @@ impl Text {
         match self {
             Text::Short(short) => Ok(Text::Short(*short)),
             Text::Long(long) => Ok(Text::Long(long.clone()?)),
-        }
-    }
-
-    /// Whether both are short and alike; then their bytes are equal. Where they are not alike, the bytes may still be equal.
-    #[inline(always)]
-    pub(crate) fn is_alike(&self, other: &Text) -> bool
-        ensures { IsTrue result → text_bytes self.now ≡ text_bytes other.now }
-    {
-        match self {
-            Text::Long(_) => false,
-            Text::Short(own) => match other {
-                Text::Long(_) => false,
-                Text::Short(others) => own.is_alike(others),
-            },
         }
     }
 
