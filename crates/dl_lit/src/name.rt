@@ -54,6 +54,7 @@ impl Name {
     }
 
     /// The name with these bytes, which are known to be one.
+    #[inline(always)]
     pub fn from_spelled(alloc: Global, bytes: &[u8]) -> Result<Name, Memory>
         requires { IsTrue (is_name bytes.now) }
         ensures { IfOk result (λ name. name ≡ bytes.now) }

@@ -28,6 +28,7 @@ pub(crate) enum Text {
 impl Short {
     ghost use Rattle.dl_lit.specs.Text.{short_bytes};
 
+    #[inline(always)]
     fn make(bytes: &[u8]) -> Short
         requires { length bytes.now ≤ 12 }
         ensures { short_bytes result ≡ bytes.now }

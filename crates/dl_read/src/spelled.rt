@@ -40,6 +40,7 @@ impl<'a> Spelled<'a> {
         Spelled { bytes: self.bytes }
     }
 
+    #[inline(always)]
     pub fn name(self, alloc: Global) -> Result<Name, Memory>
         ensures { IfOk result (λ name. name ≡ self.entry) }
     {

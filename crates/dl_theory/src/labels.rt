@@ -20,6 +20,7 @@ pub(crate) fn append_label(labels: &mut NameSet<Name>, label: Name) -> Result<()
 }
 
 /// Adds a label at the end where it is new, and tells whether it is.
+#[inline(always)]
 pub(crate) fn insert_label(labels: &mut NameSet<Name>, label: Name) -> Result<bool, Memory>
     ensures new { IfOk result (λ new. (new ≡ false) ↔ Contains labels.old.keys label) }
     ensures keys { IfOk result (λ new. labels.new.keys ≡ labels.old.keys ++ (if new then label ∷ [] else [])) }

@@ -40,6 +40,7 @@ impl Rules {
     }
 
     /// Adds a rule at the end where no rule has its label, and gives it back where one has.
+    #[inline(always)]
     pub fn add(&mut self, rule: Rule) -> Result<Option<Rule>, Memory>
         ensures added { IfOk result (λ back. MatchOption back (¬ Contains (map (λ r. r.label) self.old) rule.label) (λ given. (given ≡ rule) × Contains (map (λ r. r.label) self.old) rule.label)) }
         ensures rules { IfOk result (λ back. MatchOption back (self.new ≡ self.old ++ rule ∷ []) (λ _. self.new ≡ self.old)) }
@@ -109,6 +110,7 @@ impl Rules {
 }
 
 /// The rule and its label go last where the label is new; else the rule comes back.
+#[inline(always)]
 fn add_rule(
     rules: &mut Vec<Rule>,
     labels: &mut NameSet<Name>,

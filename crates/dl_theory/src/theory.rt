@@ -169,6 +169,7 @@ impl Theory {
     }
 
     /// Makes an edit that is handed over, or says why not: `apply` without a copy of the edit.
+    #[inline(always)]
     pub fn apply_owned(&mut self, edit: Edit) -> Result<(), EditStop>
         ensures accepted { OnOk result (IsAccepted self.old edit) }
         ensures changed { OnOk result (self.new ≡ after_edit self.old edit) }
@@ -259,6 +260,7 @@ impl Theory {
         Ok(None)
     }
 
+    #[inline(always)]
     fn add_rule(&mut self, rule: Rule) -> Result<(), EditStop>
         ensures accepted { OnOk result (IsAccepted self.old (Edit.AddRule rule)) }
         ensures changed { OnOk result (self.new ≡ after_edit self.old (Edit.AddRule rule)) }
@@ -288,6 +290,7 @@ impl Theory {
         Ok(())
     }
 
+    #[inline(always)]
     fn add_fact(&mut self, fact: Literal) -> Result<(), EditStop>
         ensures accepted { OnOk result (IsAccepted self.old (Edit.AddFact fact)) }
         ensures changed { OnOk result (self.new ≡ after_edit self.old (Edit.AddFact fact)) }
