@@ -8,7 +8,7 @@ use Rattle.std.proofs.lemmas.Bool.{cases_lt}
 use Rattle.std.proofs.lemmas.Option.{slice_get-map, slice_get_within, get_or_from_slice_get, slice_get-get_or}
 use Rattle.std.proofs.lemmas.List.Elements.{All-nil, All-head, All-tail, Contains-get_or, Contains-append_left, Contains-append_right}
 use Rattle.dl_base.specs.Paths.{IsDistinct, IsPath, HasCycle}
-use Rattle.dl_base.proofs.Distinct.{distinct_nil, distinct_push, distinct_apart}
+use Rattle.dl_base.proofs.Distinct.{distinct_push, distinct_apart}
 use Rattle.dl_base.proofs.Members.{Contains-mapped}
 use Rattle.dl_base.proofs.PathLemmas.{path_more}
 use Rattle.dl_sup.specs.declared.link.Link.{Link}
@@ -52,7 +52,6 @@ free_distinct old (p ∷ ps) h a =
 pub record IsLoaded (items : List (List ℕ)) (order : List Link) (pairs : List Pair) (refused : Option PairRefused) (kept : ℕ) : Type 0 where
   pub within : kept ≤ length pairs
   pub numbered : IsNumbered items order (take kept pairs)
-  pub distinct : IsDistinct (take kept pairs)
   pub adds : AddsAll [] (take kept pairs) pairs refused
 
 module _ (items : List (List ℕ)) (order links : List Link) (pairs : List Pair) (h : IsNumbered items links pairs) where
@@ -78,7 +77,6 @@ module _ (items : List (List ℕ)) (order links : List Link) (pairs : List Pair)
         numbered =
             subst (λ (ps : List Pair). IsNumbered items order ps) (sym all)
             (subst (λ (ls : List Link). IsNumbered items ls pairs) (sym o.1) h);
-        distinct = subst (λ (ps : List Pair). IsDistinct ps) (sym all) (free_distinct [] pairs distinct_nil free);
         adds = (free, all);
       }
   loaded (Some r) kept e o =
@@ -94,7 +92,6 @@ module _ (items : List (List ℕ)) (order links : List Link) (pairs : List Pair)
       record {
         within = omega (arith, e, before, same_len);
         numbered = subst (λ (ps : List Pair). IsNumbered items order ps) (sym here) numbered;
-        distinct = subst (λ (ps : List Pair). IsDistinct ps) (sym here) (free_distinct [] (take r.at pairs) distinct_nil free);
         adds = record {
           refused = named items o.refused;
           stands = ap (λ ps. slice_get ps r.at) h.names ∙ slice_get-map (named items) links r.at ∙ ap (option_map (named items)) o.stands;

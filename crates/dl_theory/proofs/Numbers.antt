@@ -154,11 +154,15 @@ module _ (items : List (List ℕ)) (links : List Link) (pairs : List Pair) (h : 
     pub not_closing : (¬ ClosesCycle links l) → ¬ Closes pairs p
     not_closing none c = none (closes_numbered c)
 
+    -- a pair is there where its pair of numbers is
+    pub pair_there : Contains links l → Contains pairs p
+    pair_there m =
+        subst (λ (q : Pair). Contains pairs q) number.names
+        (subst (λ (ps : List Pair). Contains ps (named items l)) (sym h.names) (Contains-mapped (named items) links l m))
+
     -- a new pair has a new pair of numbers
     pub new_link : (¬ Contains pairs p) → ¬ Contains links l
-    new_link new m =
-        new (subst (λ (q : Pair). Contains pairs q) number.names
-        (subst (λ (ps : List Pair). Contains ps (named items l)) (sym h.names) (Contains-mapped (named items) links l m)))
+    new_link new m = new (pair_there m)
 
     -- a pair that is there has its pair of numbers there
     pub old_link : Contains pairs p → Contains links l
@@ -209,12 +213,12 @@ module _ (items : List (List ℕ)) (links : List Link) (pairs : List Pair) (h : 
       (λ l w i. not (same_test items h.distinct l.upper item label w.0 within e i || same_test items h.distinct l.lower item label w.1 within e i))
 
   -- all the pairs but one
-  pub numbered_without : (p : Pair) (upper lower : ℕ) → upper < length items → lower < length items
-      → label_at items upper ≡ p.upper → label_at items lower ≡ p.lower
-      → IsNumbered items (filter (λ l. not (l.upper == upper && l.lower == lower)) links) (filter (λ q. not (pair_eq q p)) pairs)
-  numbered_without p upper lower m n e f =
-      numbered_filtered (λ q. not (pair_eq q p)) (λ l. not (l.upper == upper && l.lower == lower))
-      (λ l w i. not (same_test items h.distinct l.upper upper p.upper w.0 m e i && same_test items h.distinct l.lower lower p.lower w.1 n f i))
+  pub numbered_without : (p : Pair) (n : Link) → IsNumberOf items n p
+      → IsNumbered items (filter (λ l. not (l.upper == n.upper && l.lower == n.lower)) links) (filter (λ q. not (pair_eq q p)) pairs)
+  numbered_without p n number =
+      numbered_filtered (λ q. not (pair_eq q p)) (λ l. not (l.upper == n.upper && l.lower == n.lower))
+      (λ l w i. not (same_test items h.distinct l.upper n.upper p.upper w.0 number.within.0 (ap (λ q. q.upper) number.names) i
+      && same_test items h.distinct l.lower n.lower p.lower w.1 number.within.1 (ap (λ q. q.lower) number.names) i))
 
   -- each label of a pair is among the items
   upper_known : (p : Pair) → Contains pairs p → Contains items p.upper
@@ -238,12 +242,6 @@ module _ (items : List (List ℕ)) (links : List Link) (pairs : List Pair) (h : 
       (λ p m _ i. not (false_unless (bytes_eq p.upper label) (bytes_eq-Decides p.upper label) (λ e. none (subst (λ (x : List ℕ). Contains items x) e (upper_known p m))) i
       || false_unless (bytes_eq p.lower label) (bytes_eq-Decides p.lower label) (λ e. none (subst (λ (x : List ℕ). Contains items x) e (lower_known p m))) i))
       (All-contains_itself pairs))
-
-  pub all_without_upper : (p : Pair) → (¬ Contains items p.upper) → ¬ Contains pairs p
-  all_without_upper p none m = none (upper_known p m)
-
-  pub all_without_lower : (p : Pair) → (¬ Contains items p.lower) → ¬ Contains pairs p
-  all_without_lower p none m = none (lower_known p m)
 
 -- each number of a track from the number of a label is one of a label
 pub track_within : (items : List (List ℕ)) (links : List Link) (l : Link) (track : List ℕ) → All (IsWithin items) links → IsWithin items l

@@ -55,10 +55,11 @@ impl From<Memory> for PairStop {
 }
 
 /// A list of pairs. Each label that ever stood in a pair has its place among the items,
-/// and the order has, for each pair, the places of its labels.
+/// and the order has, for each pair, the places of its labels. So the order tells
+/// whether a pair is in the list.
 #[derive(Drop)]
 pub(crate) struct Superiority {
-    pairs: NameSet<Pair>,
+    pairs: Vec<Pair>,
     items: NameSet<Name>,
     order: Order,
 }
@@ -71,7 +72,7 @@ impl Model for Superiority {
 
     ghost use Rattle.dl_theory.specs.KeptPairs.{IsKept};
 
-    ghost view = { λ s. s.pairs.keys };
+    ghost view = { λ s. s.pairs.items };
 
     ghost invariant = { IsKept };
 }
@@ -81,7 +82,7 @@ impl Superiority {
         ensures { result ≡ [] }
     {
         Superiority {
-            pairs: name_set(alloc),
+            pairs: Vec::new(alloc),
             items: name_set(alloc),
             order: Order::make(alloc),
         }
@@ -116,10 +117,11 @@ impl Superiority {
         let links = number_all(alloc, &mut items, pairs)?;
         let (order, refused) = order_of(alloc, items.as_slice(), links.as_slice())?;
         let kept = kept_len(&refused, pairs.len());
-        let pairs = collect_pairs(alloc, &pairs[..kept])?;
+        let mut front = Vec::with_capacity(alloc, kept)?;
+        copy_behind(&mut front, &pairs[..kept])?;
         Ok((
             Superiority {
-                pairs,
+                pairs: front,
                 items,
                 order,
             },
@@ -148,7 +150,7 @@ impl Superiority {
         ensures { IfOk result (λ r. AddsAll self.now r.0 pairs.now r.1) }
     {
         let alloc = *self.pairs.allocator();
-        let old = self.pairs.len();
+        let old = self.len();
         if old == 0 {
             return Superiority::load(alloc, pairs);
         }
@@ -215,7 +217,7 @@ impl Superiority {
     pub fn has(&self, pair: &Pair) -> bool
         ensures { IsTrue result ↔ Contains self.now pair.now }
     {
-        holds_pair(&self.pairs, pair)
+        self.is_above(&pair.upper, &pair.lower)
     }
 
     /// Whether the pair of two labels is in the list.
@@ -240,7 +242,7 @@ impl Superiority {
     pub fn get(&self, at: usize) -> Option<&Pair>
         ensures { option_copied result ≡ slice_get self.now at }
     {
-        self.pairs.get_index(at)
+        self.pairs.get(at)
     }
 
     pub fn as_slice(&self) -> &[Pair]
@@ -248,12 +250,6 @@ impl Superiority {
     {
         self.pairs.as_slice()
     }
-}
-
-fn holds_pair(pairs: &NameSet<Pair>, pair: &Pair) -> bool
-    ensures { IsTrue result ↔ Contains pairs.now.keys pair.now }
-{
-    pairs.contains(pair)
 }
 
 /// The place of a label among the items, which may grow.
@@ -347,7 +343,7 @@ fn later(refused: Option<PairRefused>, by: usize) -> Option<PairRefused>
 fn joined(alloc: Global, old: &[Pair], new: &[Pair]) -> Result<Vec<Pair>, Memory>
     ensures { IfOk result (λ all. all.items ≡ old.now ++ new.now) }
 {
-    let mut all = Vec::new(alloc);
+    let mut all = Vec::with_capacity(alloc, old.len() + new.len())?;
     copy_behind(&mut all, old)?;
     copy_behind(&mut all, new)?;
     Ok(all)
@@ -360,17 +356,6 @@ fn copy_behind(all: &mut Vec<Pair>, pairs: &[Pair]) -> Result<(), Memory>
         all.push(pair.copy()?)?;
     }
     Ok(())
-}
-
-fn collect_pairs(alloc: Global, pairs: &[Pair]) -> Result<NameSet<Pair>, Memory>
-    requires { IsDistinct pairs.now }
-    ensures { IfOk result (λ set. set.keys ≡ pairs.now) }
-{
-    let mut set = name_set(alloc);
-    for pair in pairs {
-        insert_pair(&mut set, pair.copy()?)?;
-    }
-    Ok(set)
 }
 
 /// The labels of a track of numbers.
@@ -407,48 +392,40 @@ fn add_link(alloc: Global, items: &[Name], order: &mut Order, link: Link) -> Res
     }
 }
 
-fn append_pair(pairs: &mut NameSet<Pair>, pair: Pair) -> Result<(), PairStop>
-    requires { ¬ Contains pairs.old.keys pair }
-    ensures room { OnOk result (length pairs.old.keys < 1000000) }
-    ensures ok { OnOk result (pairs.new.keys ≡ pairs.old.keys ++ pair ∷ []) }
-    ensures full { result ≡ Err PairStop.Full → 1000000 ≤ length pairs.old.keys }
+fn append_pair(pairs: &mut Vec<Pair>, pair: Pair) -> Result<(), PairStop>
+    ensures room { OnOk result (length pairs.old.items < 1000000) }
+    ensures ok { OnOk result (pairs.new.items ≡ pairs.old.items ++ pair ∷ []) }
+    ensures full { result ≡ Err PairStop.Full → 1000000 ≤ length pairs.old.items }
     ensures no_cycle { (path : List (List ℕ)) → ¬ (result ≡ Err (PairStop.Cycle path)) }
-    ensures err { OnErr result (pairs.new.keys ≡ pairs.old.keys) }
+    ensures err { OnErr result (pairs.new.items ≡ pairs.old.items) }
 {
     if pairs.len() >= LIMIT {
         return Err(PairStop::Full);
     }
-    insert_pair(pairs, pair)?;
-    Ok(())
-}
-
-fn insert_pair(pairs: &mut NameSet<Pair>, pair: Pair) -> Result<(), Memory>
-    requires { ¬ Contains pairs.old.keys pair }
-    ensures ok { OnOk result (pairs.new.keys ≡ pairs.old.keys ++ pair ∷ []) }
-    ensures err { OnErr result (pairs.new.keys ≡ pairs.old.keys) }
-{
-    pairs.insert(pair)?;
-    Ok(())
+    match pairs.push(pair) {
+        Ok(()) => Ok(()),
+        Err(_) => Err(PairStop::Memory),
+    }
 }
 
 /// Adds a pair and its numbers, or neither.
 fn add_numbered(
     alloc: Global,
-    pairs: &mut NameSet<Pair>,
+    pairs: &mut Vec<Pair>,
     items: &[Name],
     order: &mut Order,
     pair: Pair,
     link: Link,
 ) -> Result<(), PairStop>
-    requires numbered { IsNumbered items.now order.old pairs.old.keys }
+    requires numbered { IsNumbered items.now order.old pairs.old.items }
     requires number { IsNumberOf items.now link pair }
-    requires new { ¬ Contains pairs.old.keys pair }
-    ensures numbered { IsNumbered items.now order.new pairs.new.keys }
-    ensures accepted { OnOk result (¬ Closes pairs.old.keys pair) }
-    ensures room { OnOk result (length pairs.old.keys < 1000000) }
-    ensures added { OnOk result (pairs.new.keys ≡ pairs.old.keys ++ pair ∷ []) }
-    ensures stopped { IfErr result (IsPairStop pairs.old.keys pair) }
-    ensures kept { OnErr result (pairs.new.keys ≡ pairs.old.keys) }
+    requires new { ¬ Contains pairs.old.items pair }
+    ensures numbered { IsNumbered items.now order.new pairs.new.items }
+    ensures accepted { OnOk result (¬ Closes pairs.old.items pair) }
+    ensures room { OnOk result (length pairs.old.items < 1000000) }
+    ensures added { OnOk result (pairs.new.items ≡ pairs.old.items ++ pair ∷ []) }
+    ensures stopped { IfErr result (IsPairStop pairs.old.items pair) }
+    ensures kept { OnErr result (pairs.new.items ≡ pairs.old.items) }
 {
     match add_link(alloc, items, order, link) {
         Err(stop) => Err(stop),
@@ -462,37 +439,57 @@ fn add_numbered(
     }
 }
 
+/// Removes a pair and its numbers; tells whether it was there.
 fn drop_numbered(
-    pairs: &mut NameSet<Pair>,
+    pairs: &mut Vec<Pair>,
     items: &NameSet<Name>,
     order: &mut Order,
     pair: &Pair,
 ) -> bool
-    requires distinct { IsDistinct pairs.old.keys }
-    requires numbered { IsNumbered items.now.keys order.old pairs.old.keys }
-    ensures numbered { IsNumbered items.now.keys order.new pairs.new.keys }
-    ensures found { IsTrue result ↔ Contains pairs.old.keys pair.now }
-    ensures dropped { pairs.new.keys ≡ filter (λ p. not (pair_eq p pair.now)) pairs.old.keys }
+    requires distinct { IsDistinct pairs.old.items }
+    requires numbered { IsNumbered items.now.keys order.old pairs.old.items }
+    ensures numbered { IsNumbered items.now.keys order.new pairs.new.items }
+    ensures found { IsTrue result ↔ Contains pairs.old.items pair.now }
+    ensures dropped { pairs.new.items ≡ filter (λ p. not (pair_eq p pair.now)) pairs.old.items }
 {
-    let found = remove_pair(pairs, pair);
-    if let Some(upper) = place_of(items, &pair.upper) {
-        if let Some(lower) = place_of(items, &pair.lower) {
-            let _ = order.drop_pair(upper, lower);
-        }
+    match link_of(items, pair) {
+        None => false,
+        Some(link) => match order.drop_pair(link.upper, link.lower) {
+            Err(_) => false,
+            Ok(()) => {
+                remove_pair(pairs, pair);
+                true
+            }
+        },
     }
-    found
 }
 
-fn remove_pair(pairs: &mut NameSet<Pair>, pair: &Pair) -> bool
-    requires { IsDistinct pairs.old.keys }
-    ensures found { IsTrue result ↔ Contains pairs.old.keys pair.now }
-    ensures dropped { pairs.new.keys ≡ filter (λ p. not (pair_eq p pair.now)) pairs.old.keys }
+/// The places of both labels of a pair, if both have one.
+fn link_of(items: &NameSet<Name>, pair: &Pair) -> Option<Link>
+    ensures number { IfSome result (λ l. IsNumberOf items.now.keys l pair.now) }
+    ensures absent { result ≡ None → ¬ (Contains items.now.keys pair.now.upper × Contains items.now.keys pair.now.lower) }
 {
-    pairs.shift_remove(pair)
+    match place_of(items, &pair.upper) {
+        None => None,
+        Some(upper) => match place_of(items, &pair.lower) {
+            None => None,
+            Some(lower) => Some(Link { upper, lower }),
+        },
+    }
 }
 
-fn drop_naming(pairs: &mut NameSet<Pair>, order: &mut Order, label: &Name, item: usize)
-    ensures pairs { pairs.new.keys ≡ filter (λ p. not (bytes_eq p.upper label.now || bytes_eq p.lower label.now)) pairs.old.keys }
+/// Removes a pair that may be there, and leaves the others in order.
+fn remove_pair(pairs: &mut Vec<Pair>, pair: &Pair)
+    requires { IsDistinct pairs.old.items }
+    ensures { pairs.new.items ≡ filter (λ p. not (pair_eq p pair.now)) pairs.old.items }
+{
+    if let Some(at) = pairs.iter().position(|p| *p == *pair) {
+        pairs.remove(at);
+    }
+}
+
+fn drop_naming(pairs: &mut Vec<Pair>, order: &mut Order, label: &Name, item: usize)
+    ensures pairs { pairs.new.items ≡ filter (λ p. not (bytes_eq p.upper label.now || bytes_eq p.lower label.now)) pairs.old.items }
     ensures links { order.new ≡ filter (λ l. not (names_item item l)) order.old }
 {
     pairs.retain(|p| !(p.upper == *label || p.lower == *label));

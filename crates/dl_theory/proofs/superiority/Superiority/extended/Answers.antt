@@ -12,18 +12,18 @@ none_of (p ∷ ps) h = cc
 pub returns-then-old-eq0 : goal.returns-then-old-eq0
 returns-then-old-eq0 c =
     subst (λ (ps : List Pair). IfOk c.load.result (λ r. AddsAll ps r.0 c.args.pairs.now r.1))
-    (none_of c.args.self.now (omega (arith, c.len-old.ensures.len, ap length c.self.view_is, c.if-old-eq0.true))) c.load.ensures
+    (none_of c.args.self.now (omega (arith, c.len-old.ensures, c.if-old-eq0.true))) c.load.ensures
 
 pub later-requires : goal.later-requires
 later-requires c =
     (behind_as c.args.self.now c.args.pairs.now c.in_ok-extended.extended c.as_slice-2.result.now c.len-old.result c.in_ok-extended.refused
-    (c.len-old.ensures.len ∙ ap length c.self.view_is)
-    (c.as_slice-2.ensures.value ∙ c.in_ok-all.ensures ∙ ap (λ (l : List Pair). l ++ c.args.pairs.now) (c.as_slice.ensures.keys ∙ c.self.view_is))
+    c.len-old.ensures
+    (c.as_slice-2.ensures.value ∙ c.in_ok-all.ensures ∙ ap (λ (l : List Pair). l ++ c.args.pairs.now) (c.as_slice.ensures.value ∙ c.self.view_is))
     c.requires.distinct c.requires.acyclic c.requires.few c.in_ok-extended.ensures).0
 
 pub returns : goal.returns
 returns c =
     rw c.later.ensures (behind_as c.args.self.now c.args.pairs.now c.in_ok-extended.extended c.as_slice-2.result.now c.len-old.result c.in_ok-extended.refused
-    (c.len-old.ensures.len ∙ ap length c.self.view_is)
-    (c.as_slice-2.ensures.value ∙ c.in_ok-all.ensures ∙ ap (λ (l : List Pair). l ++ c.args.pairs.now) (c.as_slice.ensures.keys ∙ c.self.view_is))
+    c.len-old.ensures
+    (c.as_slice-2.ensures.value ∙ c.in_ok-all.ensures ∙ ap (λ (l : List Pair). l ++ c.args.pairs.now) (c.as_slice.ensures.value ∙ c.self.view_is))
     c.requires.distinct c.requires.acyclic c.requires.few c.in_ok-extended.ensures).1

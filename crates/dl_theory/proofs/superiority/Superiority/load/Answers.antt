@@ -1,4 +1,4 @@
-use Rattle.std.proofs.Common.{[], List, sym, subst}
+use Rattle.std.proofs.Common.{[], ◌++◌, List, take, sym, ap, subst, ◌∙◌}
 use Rattle.std.proofs.lemmas.List.{length-take-le}
 use Rattle.dl_theory.specs.declared.rule.Pair.{Pair}
 use Rattle.dl_theory.specs.Pairs.{IsNumbered}
@@ -6,30 +6,25 @@ use Rattle.dl_theory.specs.Superiority.{AddsAll}
 use Rattle.dl_theory.proofs.Loads.{loaded_as}
 use Rattle.dl_theory.proofs.superiority.Superiority.load.Goals as goal
 
-pub slice_bounds-collect_pairs-end : goal.slice_bounds-collect_pairs-end
-slice_bounds-collect_pairs-end c =
+pub slice_bounds-copy_behind-end : goal.slice_bounds-copy_behind-end
+slice_bounds-copy_behind-end c =
     let all =
     loaded_as c.number_all.new.items.keys c.in_ok-order.order c.in_ok-links.links.items c.args.pairs.now c.in_ok-links.ensures c.in_ok-order.refused
     c.kept_len-kept.result c.as_slice.result.now c.as_slice-2.result.now c.kept_len-kept.ensures c.as_slice.ensures.keys c.as_slice-2.ensures.value c.in_ok-order.ensures in
     sym (length-take-le c.kept_len-kept.result c.args.pairs.now all.within)
-
-pub collect_pairs-requires : goal.collect_pairs-requires
-collect_pairs-requires c =
-    let all =
-    loaded_as c.number_all.new.items.keys c.in_ok-order.order c.in_ok-links.links.items c.args.pairs.now c.in_ok-links.ensures c.in_ok-order.refused
-    c.kept_len-kept.result c.as_slice.result.now c.as_slice-2.result.now c.kept_len-kept.ensures c.as_slice.ensures.keys c.as_slice-2.ensures.value c.in_ok-order.ensures in
-    all.distinct
 
 pub invariant_of-result : goal.invariant_of-result
 invariant_of-result c =
     let all =
     loaded_as c.number_all.new.items.keys c.in_ok-order.order c.in_ok-links.links.items c.args.pairs.now c.in_ok-links.ensures c.in_ok-order.refused
     c.kept_len-kept.result c.as_slice.result.now c.as_slice-2.result.now c.kept_len-kept.ensures c.as_slice.ensures.keys c.as_slice-2.ensures.value c.in_ok-order.ensures in
-    subst (λ (ps : List Pair). IsNumbered c.number_all.new.items.keys c.in_ok-order.order ps) (sym c.in_ok-pairs.ensures) all.numbered
+    subst (λ (ps : List Pair). IsNumbered c.number_all.new.items.keys c.in_ok-order.order ps)
+    (sym (c.in_ok-copy_behind.ensures ∙ ap (λ (ps : List Pair). ps ++ take c.kept_len-kept.result c.args.pairs.now) c.in_ok-front.ensures.items)) all.numbered
 
 pub returns : goal.returns
 returns c =
     let all =
     loaded_as c.number_all.new.items.keys c.in_ok-order.order c.in_ok-links.links.items c.args.pairs.now c.in_ok-links.ensures c.in_ok-order.refused
     c.kept_len-kept.result c.as_slice.result.now c.as_slice-2.result.now c.kept_len-kept.ensures c.as_slice.ensures.keys c.as_slice-2.ensures.value c.in_ok-order.ensures in
-    subst (λ (ps : List Pair). AddsAll [] ps c.args.pairs.now c.in_ok-order.refused) (sym c.in_ok-pairs.ensures) all.adds
+    subst (λ (ps : List Pair). AddsAll [] ps c.args.pairs.now c.in_ok-order.refused)
+    (sym (c.in_ok-copy_behind.ensures ∙ ap (λ (ps : List Pair). ps ++ take c.kept_len-kept.result c.args.pairs.now) c.in_ok-front.ensures.items)) all.adds
