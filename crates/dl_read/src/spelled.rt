@@ -40,6 +40,7 @@ impl<'a> Spelled<'a> {
         Spelled { bytes: self.bytes }
     }
 
+    // so that the name is made where it is kept
     #[inline(always)]
     pub fn name(self, alloc: Global) -> Result<Name, Memory>
         ensures { IfOk result (λ name. name ≡ self.entry) }
