@@ -57,6 +57,7 @@ impl BodyNumbers {
     }
 
     /// A body of these numbers, and the same each where it first stands, where some stand twice.
+    #[inline(always)]
     pub fn make(alloc: Global, body: Row, once: Option<Row>) -> Result<BodyNumbers, Memory>
         requires once { once_or once body.items ≡ each_once body.items }
         requires short { length body.items < 2 ^ 26 }

@@ -20,6 +20,7 @@ impl Both {
     ghost use Rattle.std.specs.Prelude.{IfOk};
 
     /// Copies of a literal and of its complement.
+    #[inline(always)]
     pub fn of(literal: &Literal) -> Result<Both, Memory>
         ensures { IfOk result (λ both. both.first ≡ literal.now) }
     {

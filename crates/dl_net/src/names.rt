@@ -73,6 +73,7 @@ impl PairedNames {
     }
 
     /// The number of a literal, if it has one.
+    #[inline(always)]
     pub fn find(&self, literal: &Literal) -> Option<usize>
         ensures number { result ≡ position (literal_eq literal.now) self.now.literals }
         ensures absent { IfNone result (¬ Contains self.now.literals literal.now) }
@@ -93,6 +94,7 @@ impl PairedNames {
     }
 
     /// The number of a literal, which gets one beside its complement if it has none. Most have one, and cost one look-up and no copy.
+    #[inline(always)]
     pub fn number(&mut self, literal: &Literal) -> Result<usize, Memory>
         ensures named { OnOk result (self.new.literals ≡ with_both self.old.literals literal.now) }
         ensures number { IfOk result (λ n. position (literal_eq literal.now) self.new.literals ≡ Some n) }
@@ -109,6 +111,7 @@ impl PairedNames {
     }
 
     /// Numbers a literal that has no number, and its complement, or neither.
+    #[inline(always)]
     fn add(&mut self, literal: &Literal) -> Result<usize, Memory>
         requires { ¬ Contains self.old.literals literal.now }
         ensures added { OnOk result (self.new.literals ≡ self.old.literals ++ literal.now ∷ complement literal.now ∷ []) }

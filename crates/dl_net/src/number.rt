@@ -36,6 +36,7 @@ pub(crate) fn number_literal(names: &mut PairedNames, literal: &Literal) -> Resu
 }
 
 /// The numbers of literals, which get some beside their complements where they have none.
+#[inline(always)]
 fn number_literals(
     alloc: Global,
     names: &mut PairedNames,
@@ -58,6 +59,8 @@ fn number_literals(
 }
 
 /// A rule by the numbers of its literals, which get some beside their complements where they have none.
+// inlined always, with what it calls: the rule's numbers are then made where they are kept
+#[inline(always)]
 pub(crate) fn number_rule(
     alloc: Global,
     names: &mut PairedNames,
@@ -77,6 +80,7 @@ pub(crate) fn number_rule(
 }
 
 /// A rule of these numbers.
+#[inline(always)]
 fn entry_of(alloc: Global, kind: Kind, head: u32, numbers: Row) -> Result<Entry, Memory>
     ensures { IfOk result (λ e. e ≡ record { kind = kind; head = head; body = numbers.items }) }
 {
@@ -89,6 +93,7 @@ fn entry_of(alloc: Global, kind: Kind, head: u32, numbers: Row) -> Result<Entry,
 }
 
 /// The numbers, each where it first stands; `None` where none stands twice.
+#[inline(always)]
 fn once_of(alloc: Global, numbers: &[u32]) -> Result<Option<Row>, Memory>
     ensures { IfOk result (λ once. once_or once numbers.now ≡ each_once numbers.now) }
 {

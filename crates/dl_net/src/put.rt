@@ -52,6 +52,7 @@ pub(crate) fn widen(rows: &mut RowTable, names: usize) -> Result<(), Memory>
 }
 
 /// Room for one more number in a list. The table becomes as long as that takes.
+#[inline(always)]
 pub(crate) fn reserve_at(rows: &mut RowTable, number: u32) -> Result<(), Memory>
     ensures kept { KeepsLists rows.old rows.new }
     ensures wide { OnOk result (number < length rows.new.lists) }

@@ -73,10 +73,7 @@ impl Region {
             return;
         }
         set(&mut self.words, number);
-        match self.members.push(number as u32) {
-            Ok(()) => {}
-            Err(_) => unreachable!(),
-        }
+        self.members.push_reserved(number as u32);
     }
 
     /// Removes all members, at the cost of these alone. The room stays.

@@ -51,6 +51,7 @@ impl Row {
     }
 
     /// Room for one more number. `Memory` leaves the list as it was.
+    #[inline(always)]
     pub fn reserve(&mut self, alloc: Global) -> Result<(), Memory>
         ensures items { self.new.items ≡ self.old.items }
         ensures more { self.old.spare ≤ self.new.spare }
@@ -73,6 +74,7 @@ impl Row {
     }
 
     /// A number at the end, in room that is there.
+    #[inline(always)]
     pub fn push_reserved(&mut self, item: u32)
         requires { 0 < self.old.spare }
         ensures items { self.new.items ≡ self.old.items ++ item ∷ [] }
@@ -97,6 +99,7 @@ impl Row {
     }
 
     /// A number at the end.
+    #[inline(always)]
     pub fn push(&mut self, alloc: Global, item: u32) -> Result<(), Memory>
         ensures { OnOk result (self.new.items ≡ self.old.items ++ item ∷ []) }
     {
