@@ -4,3 +4,4 @@ pub mod Replies
 pub mod Judging
 pub mod Certifying
 pub mod Exact
+pub mod Lines

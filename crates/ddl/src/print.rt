@@ -1,12 +1,16 @@
 //! Replies, written to a sink piece by piece.
 
-ghost use Rattle.std.specs.Prelude.{◌≡◌};
+ghost use Rattle.std.specs.Prelude.{◌≡◌, ◌+◌, ◌<◌, ◌≤◌, ◌++◌, List, ℕ, Option, IsTrue, length};
+ghost use Rattle.std.specs.Vec.{vec_len, vec_capacity};
+ghost use Rattle.std.specs.Io.KnownBytes.{append_known};
 ghost use Rattle.dl_io.specs.Outside.{HasCause};
 ghost use Rattle.dl_io.specs.Streams.{WritesAll};
+ghost use Rattle.dl_lit.specs.declared.literal.Family.{Family};
 ghost use Rattle.dl_print.specs.Text.{refusal_text};
+ghost use Rattle.dl_print.specs.Room.{HasRoom, Puts};
 ghost use Rattle.ddl.specs.Theories.{line_front, line_text, refusal_words, refused_line};
 ghost use Rattle.ddl.specs.Checks.{checked_line};
-ghost use Rattle.ddl.specs.Conclusions.{conclusion_line, conclusions_text};
+ghost use Rattle.ddl.specs.Conclusions.{conclusion_line, conclusions_text, lines_before};
 ghost use Rattle.ddl.specs.Replies.{usage_line, reply_text};
 
 use crate::check::Checked;
@@ -15,8 +19,11 @@ use crate::reply::Reply;
 use dl_edition::Concluded;
 use dl_io::{Failed, Sink, write_all};
 use dl_lit::{Family, Literal};
-use dl_print::{write_conclusion, write_number, write_refusal, write_theory};
+use dl_print::{
+    put_conclusion, room_behind, write_conclusion, write_number, write_refusal, write_theory,
+};
 use dl_theory::{EditRefusal, Verdict};
+use std::alloc::Global;
 
 const USAGE: &[u8] =
     b"usage: ddl conclude F FILE, print FILE, check THEORY CERT, gen N SIZE, serve THEORY NAME [NAME ...]\n";
@@ -86,56 +93,124 @@ fn write_line<S: Sink>(
     write_all(sink, b"\n")
 }
 
-/// How many conclusions are measured together.
+/// How many conclusions go to the sink together.
 const BLOCK: usize = 32;
 
-/// How many bytes go to a sink between two flushes, where no block takes more.
-const HELD_BACK: usize = 61_440;
+/// How many bytes the lines of a block may take, to be put together before they are written.
+const ROOM: usize = 16_384;
 
-/// About how many bytes the lines of a block take.
-fn block_len(conclusions: &Concluded, from: usize) -> usize {
-    let to = from.saturating_add(BLOCK).min(conclusions.len());
-    let mut len: usize = 0;
+/// Whether the lines from a place on, up to another, fit into so many bytes. Where they nearly fill them, it may say no.
+// In their order literals lie anywhere in memory. Measuring a block waits for all of them at once, where each line would wait for its own.
+fn fit(conclusions: &Concluded, from: usize, to: usize, room: usize) -> bool
+    requires ordered { from ≤ to }
+    requires within { to ≤ length conclusions.now }
+    ensures { IsTrue result → (family : Family) → length (lines_before family conclusions.now to) ≤ length (lines_before family conclusions.now from) + room }
+{
+    let mut left = room;
     for at in from..to {
         let (literal, _) = conclusions.at(at);
-        let mode = match &literal.mode {
-            None => 0,
-            Some(mode) => mode.bytes().len(),
-        };
-        len = len
-            .saturating_add(mode)
-            .saturating_add(literal.atom.bytes().len());
+        match room_behind(literal, left) {
+            Some(behind) if behind > 0 => left = behind - 1,
+            _ => return false,
+        }
     }
-    len.saturating_add(BLOCK * 8)
+    true
 }
 
-/// Where a block begins, flushes if its lines may not fit behind the bytes that are held back. Says how many are held back once the
-/// block is written.
-// In their order literals lie anywhere in memory. Measuring a block waits for all of them at once, where each line would wait for its own.
+/// Puts a line behind a text that has room for it.
 #[inline(always)]
-fn begin_block<S: Sink>(
+fn put_line(text: &mut Vec<u8>, family: Family, verdict: Verdict, literal: &Literal)
+    requires { HasRoom text.old (conclusion_line family (record { literal = literal.now; verdict = verdict })) }
+    ensures { Puts text.old text.new (conclusion_line family (record { literal = literal.now; verdict = verdict })) }
+{
+    put_conclusion(text, verdict, family, literal);
+    text.push_reserved(b'\n');
+}
+
+/// Puts the lines from a place on, up to another, into an empty text that has room for them.
+fn put_lines(text: &mut Vec<u8>, family: Family, conclusions: &Concluded, from: usize, to: usize)
+    requires ordered { from ≤ to }
+    requires within { to ≤ length conclusions.now }
+    requires empty { vec_len text.old ≡ 0 }
+    requires room { length (lines_before family conclusions.now to) ≤ length (lines_before family conclusions.now from) + vec_capacity text.old }
+    ensures lines { lines_before family conclusions.now to ≡ lines_before family conclusions.now from ++ text.new.items }
+{
+    for at in from..to {
+        let (literal, verdict) = conclusions.at(at);
+        put_line(text, family, verdict, literal);
+    }
+}
+
+/// Writes the lines from a place on, up to another, piece by piece.
+fn write_lines<S: Sink>(
     sink: &mut S,
+    family: Family,
     conclusions: &Concluded,
-    at: usize,
-    held: usize,
-) -> Result<usize, Failed>
-    ensures bytes { S.written sink.new ≡ S.written sink.old }
+    from: usize,
+    to: usize,
+) -> Result<(), Failed>
+    requires ordered { from ≤ to }
+    requires within { to ≤ length conclusions.now }
+    ensures bytes { (before : Option (List ℕ)) → S.written sink.old ≡ append_known before (lines_before family conclusions.now from)
+        → WritesAll before (S.written sink.new) result (lines_before family conclusions.now to) }
     ensures cause { HasCause (S.faults sink.old) (S.faults sink.new) result }
     ensures name { S.name sink.new ≡ S.name sink.old }
 {
-    if at % BLOCK != 0 {
-        return Ok(held);
+    for at in from..to {
+        let (literal, verdict) = conclusions.at(at);
+        write_line(sink, family, verdict, literal)?;
     }
-    let len = block_len(conclusions, at);
-    let held = held.saturating_add(len);
-    if held <= HELD_BACK {
-        return Ok(held);
+    Ok(())
+}
+
+/// Writes the lines from a place on, up to another: as one piece where they fit into the text.
+fn write_block<S: Sink>(
+    sink: &mut S,
+    text: &mut Vec<u8>,
+    family: Family,
+    conclusions: &Concluded,
+    from: usize,
+    to: usize,
+) -> Result<(), Failed>
+    requires ordered { from ≤ to }
+    requires within { to ≤ length conclusions.now }
+    ensures bytes { (before : Option (List ℕ)) → S.written sink.old ≡ append_known before (lines_before family conclusions.now from)
+        → WritesAll before (S.written sink.new) result (lines_before family conclusions.now to) }
+    ensures cause { HasCause (S.faults sink.old) (S.faults sink.new) result }
+    ensures name { S.name sink.new ≡ S.name sink.old }
+{
+    text.clear();
+    if fit(conclusions, from, to, text.capacity()) {
+        put_lines(text, family, conclusions, from, to);
+        write_all(sink, text.as_slice())
+    } else {
+        write_lines(sink, family, conclusions, from, to)
     }
-    sink.flush()?;
-    Ok(len)
+}
+
+/// Where the block ends that begins at a place.
+fn block_end(from: usize, len: usize) -> usize
+    requires { from < len }
+    ensures later { from < result }
+    ensures within { result ≤ len }
+{
+    if len - from > BLOCK {
+        from + BLOCK
+    } else {
+        len
+    }
+}
+
+/// Room for the lines of a block. Where there is no memory for it, there is none, and lines are written piece by piece.
+fn room(alloc: Global) -> Vec<u8> {
+    match Vec::with_capacity(alloc, ROOM) {
+        Ok(text) => text,
+        Err(_) => Vec::new(alloc),
+    }
 }
 
 fn write_conclusions<S: Sink>(
+    alloc: Global,
     sink: &mut S,
     family: Family,
     conclusions: &Concluded,
@@ -144,11 +219,12 @@ fn write_conclusions<S: Sink>(
     ensures cause { HasCause (S.faults sink.old) (S.faults sink.new) result }
     ensures name { S.name sink.new ≡ S.name sink.old }
 {
-    let mut held = 0;
-    for at in 0..conclusions.len() {
-        held = begin_block(sink, conclusions, at, held)?;
-        let (literal, verdict) = conclusions.at(at);
-        write_line(sink, family, verdict, literal)?;
+    let mut text = room(alloc);
+    let mut from = 0;
+    while from < conclusions.len() {
+        let to = block_end(from, conclusions.len());
+        write_block(sink, &mut text, family, conclusions, from, to)?;
+        from = to;
     }
     Ok(())
 }
@@ -174,7 +250,7 @@ fn write_checked<S: Sink>(sink: &mut S, checked: Checked) -> Result<(), Failed>
     }
 }
 
-fn write_reply<S: Sink>(sink: &mut S, reply: &Reply) -> Result<(), Failed>
+fn write_reply<S: Sink>(alloc: Global, sink: &mut S, reply: &Reply) -> Result<(), Failed>
     ensures bytes { WritesAll (S.written sink.old) (S.written sink.new) result (reply_text reply.now) }
     ensures cause { HasCause (S.faults sink.old) (S.faults sink.new) result }
     ensures name { S.name sink.new ≡ S.name sink.old }
@@ -182,19 +258,24 @@ fn write_reply<S: Sink>(sink: &mut S, reply: &Reply) -> Result<(), Failed>
     match reply {
         Reply::Usage => write_all(sink, USAGE),
         Reply::Refused(refusal) => write_refused(sink, refusal),
-        Reply::Conclusions(family, conclusions) => write_conclusions(sink, *family, conclusions),
+        Reply::Conclusions(family, conclusions) => write_conclusions(
+            alloc,
+            sink,
+            *family,
+            conclusions,
+        ),
         Reply::Text(theory) => write_theory(sink, theory),
         Reply::Checked(checked) => write_checked(sink, *checked),
     }
 }
 
 /// Writes the reply and flushes, also where the reply was cut short.
-pub fn print<S: Sink>(sink: &mut S, reply: &Reply) -> Result<(), Failed>
+pub fn print<S: Sink>(alloc: Global, sink: &mut S, reply: &Reply) -> Result<(), Failed>
     ensures bytes { WritesAll (S.written sink.old) (S.written sink.new) result (reply_text reply.now) }
     ensures cause { HasCause (S.faults sink.old) (S.faults sink.new) result }
     ensures name { S.name sink.new ≡ S.name sink.old }
 {
-    let written = write_reply(sink, reply);
+    let written = write_reply(alloc, sink, reply);
     let flushed = sink.flush();
     written?;
     flushed

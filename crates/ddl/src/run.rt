@@ -155,12 +155,12 @@ fn reply_to<H: House>(alloc: Global, words: &Vec<String>, house: &mut H) -> Resu
 }
 
 // Prints a reply and leaves what it holds to the system.
-fn say<S: Sink>(sink: &mut S, reply: Reply) -> Result<(), Failed>
+fn say<S: Sink>(alloc: Global, sink: &mut S, reply: Reply) -> Result<(), Failed>
     ensures bytes { WritesAll (S.written sink.old) (S.written sink.new) result (reply_text reply) }
     ensures cause { HasCause (S.faults sink.old) (S.faults sink.new) result }
     ensures name { S.name sink.new ≡ S.name sink.old }
 {
-    let printed = print(sink, &reply);
+    let printed = print(alloc, sink, &reply);
     // The process ends after its reply: the system takes memory back at once, where a drop would go along every rule.
     mem::forget(reply);
     printed
@@ -179,7 +179,7 @@ fn respond<H: House>(alloc: Global, words: &Vec<String>, house: &mut H, sink: &m
     match reply_to(alloc, words, house) {
         Ok(reply) => {
             let status = status_of(&reply);
-            match say(sink, reply) {
+            match say(alloc, sink, reply) {
                 Ok(()) => status,
                 Err(Failed) => Status::Fault,
             }

@@ -11,7 +11,7 @@ use dl_io::{Failed, Sink, write_all};
 use dl_lit::{Family, Literal};
 use dl_theory::Verdict;
 
-fn verdict_byte(verdict: Verdict) -> u8
+pub(crate) fn verdict_byte(verdict: Verdict) -> u8
     ensures { result ≡ verdict_byte verdict }
 {
     match verdict {
