@@ -4,6 +4,7 @@ ghost use Rattle.std.specs.Prelude.{◌≡◌, [], ◌∷◌, ◌++◌, ◌↔�
 
 use dl_lit::{Memory, Name, NameSet};
 
+#[inline(always)]
 pub(crate) fn holds_label(labels: &NameSet<Name>, label: &Name) -> bool
     ensures { IsTrue result ↔ Contains labels.now.keys label.now }
 {
@@ -31,6 +32,7 @@ pub(crate) fn insert_label(labels: &mut NameSet<Name>, label: Name) -> Result<bo
 }
 
 /// The place of a label.
+#[inline(always)]
 pub(crate) fn place_of(labels: &NameSet<Name>, label: &Name) -> Option<usize>
     ensures within { IfSome result (λ at. at < length labels.now.keys) }
     ensures there { IfSome result (λ at. slice_index_or labels.now.keys at [] ≡ label.now) }

@@ -169,6 +169,7 @@ impl Theory {
     }
 
     /// Makes an edit that is handed over, or says why not: `apply` without a copy of the edit.
+    // inlined always, with what a rule and a fact take: the edit is taken apart where it was made, and not moved
     #[inline(always)]
     pub fn apply_owned(&mut self, edit: Edit) -> Result<(), EditStop>
         ensures accepted { OnOk result (IsAccepted self.old edit) }
