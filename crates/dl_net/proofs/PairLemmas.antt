@@ -170,10 +170,6 @@ found_second ps q k p distinct e at differs =
 
 -- ---- a new pair
 
-not_true : (b : Bool) → ¬ (b ≡ true) → b ≡ false
-not_true true n = absurd (n refl)
-not_true false n = refl
-
 else_is : (b : Bool) (ps vs : List Both) → b ≡ false → (if b then ps else vs) ≡ vs
 else_is true ps vs e = cc
 else_is false ps vs e = refl
@@ -181,7 +177,7 @@ else_is false ps vs e = refl
 -- a literal of no pair goes last
 pub key_new : (ps : List Both) (p : Both) → ¬ Contains (pairs_of ps) p.first → insert_key both_eq ps p ≡ ps ++ p ∷ []
 key_new ps p none =
-    else_is (list_any (both_eq p) ps) ps (ps ++ p ∷ []) (not_true (list_any (both_eq p) ps) (λ h. none (pairs_any ps p.first h)))
+    else_is (list_any (both_eq p) ps) ps (ps ++ p ∷ []) (false_unless (list_any (both_eq p) ps) ((λ h. h), (λ h. h)) (λ h. none (pairs_any ps p.first h)))
 
 new_at : (ls : List Literal) (q : Literal) (more : List Literal) → slice_get (ls ++ q ∷ more) (length ls) ≡ Some q
 new_at [] q more = refl

@@ -1,10 +1,10 @@
 //! Conclusions, put into memory that has room for them.
 
-ghost use Rattle.std.specs.Prelude.{◌≡◌, ◌+◌, ◌≤◌, ◌++◌, IfSome, length};
+ghost use Rattle.std.specs.Prelude.{◌≡◌, ◌+◌, ◌<◌, ◌≤◌, ◌++◌, IfSome, IfNone, length};
 ghost use Rattle.std.specs.Vec.{vec_len, vec_capacity};
 ghost use Rattle.dl_print.specs.Text.{mode_text, sign_text, literal_text};
 ghost use Rattle.dl_print.specs.Conclusion.{conclusion_text};
-ghost use Rattle.dl_print.specs.Room.{HasRoom, Puts};
+ghost use Rattle.dl_print.specs.Room.{HasRoom, Puts, mode_room, conclusion_room};
 
 use crate::conclusion::verdict_byte;
 use crate::requests::family_letter;
@@ -69,7 +69,7 @@ pub fn put_conclusion(text: &mut Vec<u8>, verdict: Verdict, family: Family, lite
 }
 
 fn mode_len(mode: &Option<Name>) -> usize
-    ensures { length (mode_text mode.now) ≤ result + 2 }
+    ensures { result ≡ mode_room mode.now }
 {
     match mode {
         None => 0,
@@ -77,10 +77,12 @@ fn mode_len(mode: &Option<Name>) -> usize
     }
 }
 
-/// What room is left behind a conclusion on a literal; `None` where it may not fit.
+/// What room is left behind the most that a conclusion on a literal takes; `None` exactly where there is not so much.
 #[inline(always)]
 pub fn room_behind(literal: &Literal, room: usize) -> Option<usize>
-    ensures { IfSome result (λ left. (verdict : Verdict) → (family : Family) → left + length (conclusion_text verdict family literal.now) ≤ room) }
+    ensures left { IfSome result (λ left. left + conclusion_room literal.now ≡ room) }
+    ensures full { IfNone result (room < conclusion_room literal.now) }
+    ensures enough { (verdict : Verdict) → (family : Family) → length (conclusion_text verdict family literal.now) ≤ conclusion_room literal.now }
 {
     let left = room.checked_sub(BESIDE)?;
     let left = left.checked_sub(mode_len(&literal.mode))?;

@@ -15,7 +15,8 @@ loop-at-preserved c = λ family.
     omega (
       arith,
       c.loop-at.invariant family,
-      c.in-Some.ensures x.verdict family,
+      c.in-Some.ensures.left,
+      c.room_behind.ensures.enough x.verdict family,
       c.if-behind-gt0.true,
       ap length (next_line family cs i x within c.at.ensures),
       length-append (lines_before family cs i) (conclusion_line family x),
