@@ -67,7 +67,12 @@ impl Text {
         ensures { IfOk result (λ copy. text_bytes copy ≡ text_bytes self.now) }
     {
         match self {
-            Text::Short(short) => Ok(Text::Short(*short)),
+            // field by field: as one piece, the length and the first letters would be six bytes, which no register takes, and each move
+            // would go through memory
+            Text::Short(short) => Ok(Text::Short(Short {
+                len: short.len,
+                bytes: short.bytes,
+            })),
             Text::Long(long) => Ok(Text::Long(long.clone()?)),
         }
     }
