@@ -7,6 +7,7 @@ use Rattle.std.specs.Option.{option_map}
 use Rattle.std.specs.Cmp.{booleans_Decides}
 use Rattle.std.proofs.lemmas.Bool.{cond-true, lt-ltb, or_left, or_right, or_cases}
 use Rattle.std.proofs.lemmas.Option.{get_or_from_slice_get, slice_get_within, slice_get_past, slice_get-get_or, slice_get_cases}
+use Rattle.std.proofs.lemmas.List.Folds.{list_any_at}
 use Rattle.std.proofs.lemmas.List.Sums.{position_or_len_is}
 use Rattle.std.proofs.lemmas.List.Quantifiers.{position-Some}
 use Rattle.std.proofs.lemmas.List.Elements.{Contains-append_right}
@@ -179,13 +180,40 @@ pub key_new : (ps : List Both) (p : Both) → ¬ Contains (pairs_of ps) p.first 
 key_new ps p none =
     else_is (list_any (both_eq p) ps) ps (ps ++ p ∷ []) (false_unless (list_any (both_eq p) ps) ((λ h. h), (λ h. h)) (λ h. none (pairs_any ps p.first h)))
 
+pub added_key : (ps ps' : List Both) (p : Both) (q : Literal) → ¬ Contains (pairs_of ps) q → p.first ≡ q → ps' ≡ insert_key both_eq ps p
+    → ps' ≡ ps ++ p ∷ []
+added_key ps ps' p q none same e = e ∙ key_new ps p (λ m. none (subst (λ (r : Literal). Contains (pairs_of ps) r) same m))
+
+pub added_pairs : (ps ps' : List Both) (p : Both) (q : Literal) → p.first ≡ q → ps' ≡ ps ++ p ∷ []
+    → pairs_of ps' ≡ pairs_of ps ++ q ∷ complement q ∷ []
+added_pairs ps ps' p q same e = ap pairs_of e ∙ pairs_push ps p ∙ ap (λ r. pairs_of ps ++ r ∷ complement r ∷ []) same
+
+-- its place is that behind all pairs
+pub place_new : (ps : List Both) (p : Both) (q : Literal) → ¬ Contains (pairs_of ps) q → p.first ≡ q → position_or_len (both_eq p) ps ≡ length ps
+place_new ps p q none same =
+    position_or_len_is (both_eq p) ps (length ps) p (omega arith)
+    (λ k before. false_unless (both_eq p (get_or ps k p)) ((λ h. h), (λ h. h))
+    (λ h. none (subst (λ (r : Literal). Contains (pairs_of ps) r) same (pairs_any ps p.first (list_any_at (both_eq p) ps k p before h)))))
+    (λ lt. absurd (omega (arith, lt)))
+
+-- what an insertion tells new is in no pair
+pub told_new : (ps : List Both) (p : Both) (q : Literal) → true ≡ not (list_any (both_eq p) ps) → p.first ≡ q → ¬ Contains (pairs_of ps) q
+told_new ps p q new same m =
+    let there : list_any (both_eq p) ps ≡ true =
+    subst (λ (r : Literal). list_any (λ v. same_atom r v.first) ps ≡ true) (sym same) (has_at ps q m.0 m.1 m.2) in
+    let no : true ≡ false = new ∙ ap not there in cc
+
 new_at : (ls : List Literal) (q : Literal) (more : List Literal) → slice_get (ls ++ q ∷ more) (length ls) ≡ Some q
 new_at [] q more = refl
 new_at (x ∷ ls) q more = new_at ls q more
 
 -- a literal that joins gets the first number that was free
+pub numbered : (new ls : List Literal) (q : Literal) (n : ℕ) → IsDistinct new → new ≡ ls ++ q ∷ complement q ∷ [] → n ≡ length ls
+    → position (literal_eq q) new ≡ Some n
+numbered new ls q n distinct is first =
+    position_is new n q distinct (ap (slice_get new) first ∙ ap (λ ks. slice_get ks (length ls)) is ∙ new_at ls q (complement q ∷ []))
+
 pub numbered_new : {E : Type 0} (r : Result ℕ E) (ls new : List Literal) (q : Literal) → IsDistinct new → OnOk r (new ≡ ls ++ q ∷ complement q ∷ [])
     → IfOk r (λ n. n ≡ length ls) → IfOk r (λ n. position (literal_eq q) new ≡ Some n)
-numbered_new (Ok n) ls new q distinct is first =
-    position_is new n q distinct (ap (slice_get new) first ∙ ap (λ ks. slice_get ks (length ls)) is ∙ new_at ls q (complement q ∷ []))
+numbered_new (Ok n) ls new q distinct is first = numbered new ls q n distinct is first
 numbered_new (Err e) ls new q distinct is first = tt

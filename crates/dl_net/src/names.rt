@@ -47,6 +47,18 @@ impl PairedNames {
         }
     }
 
+    /// No literals, with room for so many pairs. `Memory` where there is none for them.
+    pub fn with_room(alloc: Global, pairs: usize) -> Result<PairedNames, Memory>
+        ensures { IfOk result (λ names. names ≡ no_names) }
+    {
+        let mut empty = name_set(alloc);
+        empty.reserve(pairs)?;
+        Ok(PairedNames {
+            pairs: empty,
+            frozen: false,
+        })
+    }
+
     pub fn len(&self) -> usize
         ensures len { result ≡ length self.now.literals }
         ensures small { result < 2 ^ 63 }
@@ -110,6 +122,46 @@ impl PairedNames {
         }
     }
 
+    /// The number of a literal, as `number` gives it. The literal is put in at once, and sought only where it was there before: where most
+    /// have no number yet, that saves a look-up.
+    #[inline(always)]
+    pub fn number_new(&mut self, literal: &Literal) -> Result<usize, Memory>
+        ensures named { OnOk result (self.new.literals ≡ with_both self.old.literals literal.now) }
+        ensures number { IfOk result (λ n. position (literal_eq literal.now) self.new.literals ≡ Some n) }
+        ensures small { IfOk result (λ n. n < 2 ^ 32) }
+        ensures kept { OnErr result (self.new.literals ≡ self.old.literals) }
+        ensures same { Contains self.old.literals literal.now → self.new ≡ self.old }
+        ensures distinct { IsDistinct self.new.literals }
+        ensures paired { IsPaired self.new.literals }
+    {
+        let _len = self.len();
+        match self.put(literal)? {
+            Some(number) => Ok(number),
+            None => self.number(literal),
+        }
+    }
+
+    /// Puts a literal in, beside its complement, and gives its number; `None` where it was there, or where no more can be numbered.
+    #[inline(always)]
+    fn put(&mut self, literal: &Literal) -> Result<Option<usize>, Memory>
+        ensures absent { IfOk result (λ put. IfSome put (λ n. ¬ Contains self.old.literals literal.now)) }
+        ensures added { IfOk result (λ put. IfSome put (λ n. self.new.literals ≡ self.old.literals ++ literal.now ∷ complement literal.now ∷ [])) }
+        ensures number { IfOk result (λ put. IfSome put (λ n. n ≡ length self.old.literals)) }
+        ensures small { IfOk result (λ put. IfSome put (λ n. n < 2 ^ 32)) }
+        ensures same { IfOk result (λ put. IfNone put (self.new ≡ self.old)) }
+        ensures kept { OnErr result (self.new ≡ self.old) }
+    {
+        if self.pairs.len() >= PAIR_LIMIT {
+            return Ok(None);
+        }
+        let (place, new) = self.pairs.insert_full(Both::of(literal)?)?;
+        if !new {
+            return Ok(None);
+        }
+        self.frozen = false;
+        Ok(Some(2 * place))
+    }
+
     /// Numbers a literal that has no number, and its complement, or neither.
     #[inline(always)]
     fn add(&mut self, literal: &Literal) -> Result<usize, Memory>
@@ -154,7 +206,7 @@ fn copied(alloc: Global, pairs: &[Both]) -> Result<PairedNames, Memory>
     requires { IsDistinct (pairs_of pairs.now) }
     ensures { IfOk result (λ names. names.literals ≡ pairs_of pairs.now) }
 {
-    let mut names = PairedNames::make(alloc);
+    let mut names = PairedNames::with_room(alloc, pairs.len())?;
     for both in pairs {
         names.add(both.first())?;
     }

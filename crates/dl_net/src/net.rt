@@ -67,7 +67,8 @@ impl Net {
         ensures pending { IfOk result (λ net. net.pending ≡ None) }
         ensures frozen { IfOk result (λ net. net.frozen ≡ false) }
     {
-        let mut names = PairedNames::make(alloc);
+        // each fact is a literal, and few are complements of each other
+        let mut names = PairedNames::with_room(alloc, theory.facts_len())?;
         let facts = mark_facts(alloc, &mut names, theory.facts())?;
         let index = index_of(alloc, &mut names, &theory)?;
         Ok(Net::whole(theory, names, facts, index, false))

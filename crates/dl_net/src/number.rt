@@ -135,6 +135,21 @@ fn firsts(alloc: Global, numbers: &[u32]) -> Result<Row, Memory>
     Ok(once)
 }
 
+/// The number of a fact, as `number_literal` gives it. It is put in before it is sought, since most facts have no number yet.
+#[inline(always)]
+fn number_new(names: &mut PairedNames, fact: &Literal) -> Result<u32, Memory>
+    requires { IsPaired names.old.literals }
+    ensures paired { IsPaired names.new.literals }
+    ensures distinct { IsDistinct names.new.literals }
+    ensures grown { Grows (IsNear (fact.now ∷ [])) names.old.literals names.new.literals }
+    ensures there { OnOk result (Contains names.new.literals fact.now) }
+    ensures number { IfOk result (λ n. n ≡ number_in names.new.literals fact.now) }
+    ensures same { Contains names.old.literals fact.now → names.new ≡ names.old }
+{
+    let number = names.number_new(fact)?;
+    Ok(number as u32)
+}
+
 /// The number of a fact, which gets one beside its complement if it has none, and a mark that is not set.
 pub(crate) fn number_fact(
     names: &mut PairedNames,
@@ -151,7 +166,7 @@ pub(crate) fn number_fact(
     ensures kept { (qs : List Literal) → HasFacts names.new.literals qs marks.old.items → HasFacts names.new.literals qs marks.new.items }
     ensures room { OnOk result (length names.new.literals ≤ length marks.new.items) }
 {
-    let number = number_literal(names, fact)?;
+    let number = number_new(names, fact)?;
     if marks.len() < names.len() {
         marks.widen(names.len(), false)?;
     }

@@ -1,24 +1,15 @@
 use Rattle.std.proofs.Common.{◌≡◌, ◌*◌, ◌++◌, ◌∷◌, [], List, length, sym, ap, subst, ◌∙◌, arith}
 use Rattle.std.specs.Prelude.{Contains}
 use Rattle.std.proofs.lemmas.List.{length-append}
-use Rattle.indexmap.specs.IndexSet.{insert_key}
 use Rattle.dl_base.specs.Paths.{IsDistinct}
 use Rattle.dl_lit.specs.declared.literal.Literal.{Literal}
 use Rattle.dl_lit.specs.Literal.{complement}
 use Rattle.dl_lit.specs.Names.{Numbering}
 use Rattle.dl_net.specs.declared.both.Both.{Both}
-use Rattle.dl_net.specs.Pairs.{pairs_of, both_eq}
+use Rattle.dl_net.specs.Pairs.{pairs_of}
 use Rattle.dl_net.proofs.NameLemmas.{both_distinct}
-use Rattle.dl_net.proofs.PairLemmas.{pairs_len, pairs_paired, pairs_push, key_new}
+use Rattle.dl_net.proofs.PairLemmas.{pairs_len, pairs_paired, added_key, added_pairs}
 use Rattle.dl_net.proofs.names.PairedNames.add.Goals as goal
-
--- a new pair goes last
-added_key : (ps ps' : List Both) (p : Both) (q : Literal) → ¬ Contains (pairs_of ps) q → p.first ≡ q → ps' ≡ insert_key both_eq ps p
-    → ps' ≡ ps ++ p ∷ []
-added_key ps ps' p q none same e = e ∙ key_new ps p (λ m. none (subst (λ (r : Literal). Contains (pairs_of ps) r) same m))
-
-added_pairs : (ps ps' : List Both) (p : Both) (q : Literal) → p.first ≡ q → ps' ≡ ps ++ p ∷ [] → pairs_of ps' ≡ pairs_of ps ++ q ∷ complement q ∷ []
-added_pairs ps ps' p q same e = ap pairs_of e ∙ pairs_push ps p ∙ ap (λ r. pairs_of ps ++ r ∷ complement r ∷ []) same
 
 pub invariant_of-self-2 : goal.invariant_of-self-2
 invariant_of-self-2 c =
