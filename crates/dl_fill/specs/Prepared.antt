@@ -5,7 +5,7 @@ use Rattle.dl_net.specs.Counting.{times}
 use Rattle.dl_fill.specs.Counters.{CounterLists, waiting}
 use Rattle.dl_fill.specs.declared.wire.Gate.{Gate}
 use Rattle.dl_fill.specs.declared.wire.Gate.TheVariants.{Never}
-use Rattle.dl_fill.specs.Gates.{awaited, at_once}
+use Rattle.dl_fill.specs.Gates.{awaited, at_once, hits_of, now_of}
 use Rattle.dl_fill.specs.Before.{is_inside}
 
 -- the node waits for that many hits, or stands in the queue
@@ -22,6 +22,10 @@ pub record IsBegun (inputs : ℕ → List ℕ) (gate : ℕ → Gate) (n : ℕ) (
   pub queue_below : (y : ℕ) → y < n → times y w.queue ≡ one_if (at_once (gate y) (inputs y))
   pub queue_above : (y : ℕ) → n ≤ y → times y w.queue ≡ 0
   pub few : length w.queue + waiting w.need ≤ n
+
+-- the node begins to wait for what its gate asks of so many inputs
+abbrev pub begun_by : Gate → ℕ → ℕ → CounterLists → CounterLists
+begun_by gate inputs y w = begun w y (hits_of gate inputs) (now_of gate inputs)
 
 -- these nodes have begun to wait for what their gates say, and all others are as before
 pub record Begins (inputs : ℕ → List ℕ) (gate : ℕ → Gate) (nodes : List ℕ) (v w : CounterLists) : Type 0 where

@@ -17,7 +17,7 @@ use dl_net::{Link, Net};
 /// One hit for each number to which the link leads.
 // Inlined always, as all below: so the width of a family is a constant, and no node costs a division.
 #[inline(always)]
-fn send(net: &Net, width: usize, link: Link, from: usize, to: usize, counters: &mut Counters)
+fn follow(net: &Net, width: usize, link: Link, from: usize, to: usize, counters: &mut Counters)
     requires { (y : ℕ) → 0 < times y (through width to (next net.now link from)) → y < length counters.old.need }
     ensures { counters.new ≡ fold hit counters.old (through width to (next net.now link from)) }
 {
@@ -25,6 +25,23 @@ fn send(net: &Net, width: usize, link: Link, from: usize, to: usize, counters: &
     for at in 0..net.next_len(link, from) {
         let place = net.next(link, from, at);
         counters.hit(place * width + to);
+    }
+}
+
+/// One hit for each number to which the link leads. Which link it is, is asked once, and not at each number.
+#[inline(always)]
+fn send(net: &Net, width: usize, link: Link, from: usize, to: usize, counters: &mut Counters)
+    requires { (y : ℕ) → 0 < times y (through width to (next net.now link from)) → y < length counters.old.need }
+    ensures { counters.new ≡ fold hit counters.old (through width to (next net.now link from)) }
+{
+    match link {
+        Link::Same => follow(net, width, Link::Same, from, to, counters),
+        Link::Uses => follow(net, width, Link::Uses, from, to, counters),
+        Link::Backs => follow(net, width, Link::Backs, from, to, counters),
+        Link::Proves => follow(net, width, Link::Proves, from, to, counters),
+        Link::Opposes => follow(net, width, Link::Opposes, from, to, counters),
+        Link::Defends => follow(net, width, Link::Defends, from, to, counters),
+        Link::Counters => follow(net, width, Link::Counters, from, to, counters),
     }
 }
 

@@ -8,8 +8,8 @@ ghost use Rattle.dl_fill.specs.declared.wire.Gate.{Gate};
 ghost use Rattle.dl_fill.specs.declared.wire.Gate.TheVariants.{Never};
 ghost use Rattle.dl_fill.specs.Counters.{waiting};
 ghost use Rattle.dl_fill.specs.Before.{Before, before_of, is_inside};
-ghost use Rattle.dl_fill.specs.Wires.{inputs, edges, AreKinds};
-ghost use Rattle.dl_fill.specs.Prepared.{IsClean, Begins, nodes_at, all_nodes};
+ghost use Rattle.dl_fill.specs.Wires.{inputs, inputs_at, edges, AreKinds};
+ghost use Rattle.dl_fill.specs.Prepared.{IsClean, Begins, begun_by, nodes_at, all_nodes};
 ghost use Rattle.dl_fill.specs.Runs.{HasRun};
 ghost use Rattle.dl_fill.specs.Spans.{IsSpans};
 
@@ -51,8 +51,112 @@ impl Gates for NoGates {
     }
 }
 
+/// The node of a kind at a place begins to wait, or goes into the queue.
+// Inlined always, as all below: so the width of a family is a constant, and no node costs a division.
+#[inline(always)]
+fn begin_node<G: Gates>(
+    gates: &G,
+    net: &Net,
+    width: usize,
+    wires: &[Wire],
+    spans: &Spans,
+    marks: &Marks,
+    region: &Region,
+    kind: usize,
+    place: usize,
+    counters: &mut Counters,
+)
+    requires kind { kind < width }
+    requires wires { length wires.now ≤ 32 }
+    requires spans { IsSpans (λ w. w.to) wires.now (length wires.now) spans.now }
+    requires bound { region.now.bound ≡ length net.now.names }
+    requires room { length net.now.names ≤ places marks.now }
+    requires nodes { place * width + width ≤ length counters.old.need }
+    requires free { (G.tells gates.now net.now (before_of marks.now region.now) kind place ≡ Never) ⊎ (length counters.old.queue + waiting counters.old.need < length counters.old.need) }
+    requires fresh { (G.tells gates.now net.now (before_of marks.now region.now) kind place ≡ Never) ⊎ (times (place * width + kind) counters.old.queue ≡ 0) }
+    ensures { counters.new ≡ begun_by (G.tells gates.now net.now (before_of marks.now region.now) kind place) (length (inputs_at net.now (is_inside region.now.members) width wires.now kind place)) (place * width + kind) counters.old }
+{
+    let _size = counters.size();
+    let gate = gates.gate(net, marks, region, kind, place);
+    let inputs = inputs_asked(net, region, width, wires, spans, gate, kind, place);
+    begin(counters, place * width + kind, gate, inputs);
+}
+
+/// The node of a kind at a place begins to wait, or goes into the queue. In each arm the kind is a constant, and what its gate is like is
+/// known where the program is built.
+#[inline(always)]
+fn begin_kind<G: Gates>(
+    gates: &G,
+    net: &Net,
+    width: usize,
+    wires: &[Wire],
+    spans: &Spans,
+    marks: &Marks,
+    region: &Region,
+    kind: usize,
+    place: usize,
+    counters: &mut Counters,
+)
+    requires kind { kind < width }
+    requires wires { length wires.now ≤ 32 }
+    requires spans { IsSpans (λ w. w.to) wires.now (length wires.now) spans.now }
+    requires bound { region.now.bound ≡ length net.now.names }
+    requires room { length net.now.names ≤ places marks.now }
+    requires nodes { place * width + width ≤ length counters.old.need }
+    requires free { (G.tells gates.now net.now (before_of marks.now region.now) kind place ≡ Never) ⊎ (length counters.old.queue + waiting counters.old.need < length counters.old.need) }
+    requires fresh { (G.tells gates.now net.now (before_of marks.now region.now) kind place ≡ Never) ⊎ (times (place * width + kind) counters.old.queue ≡ 0) }
+    ensures { counters.new ≡ begun_by (G.tells gates.now net.now (before_of marks.now region.now) kind place) (length (inputs_at net.now (is_inside region.now.members) width wires.now kind place)) (place * width + kind) counters.old }
+{
+    match kind {
+        0 => begin_node(
+            gates, net, width, wires, spans, marks, region, 0, place, counters,
+        ),
+        1 => begin_node(
+            gates, net, width, wires, spans, marks, region, 1, place, counters,
+        ),
+        2 => begin_node(
+            gates, net, width, wires, spans, marks, region, 2, place, counters,
+        ),
+        3 => begin_node(
+            gates, net, width, wires, spans, marks, region, 3, place, counters,
+        ),
+        4 => begin_node(
+            gates, net, width, wires, spans, marks, region, 4, place, counters,
+        ),
+        5 => begin_node(
+            gates, net, width, wires, spans, marks, region, 5, place, counters,
+        ),
+        6 => begin_node(
+            gates, net, width, wires, spans, marks, region, 6, place, counters,
+        ),
+        7 => begin_node(
+            gates, net, width, wires, spans, marks, region, 7, place, counters,
+        ),
+        8 => begin_node(
+            gates, net, width, wires, spans, marks, region, 8, place, counters,
+        ),
+        9 => begin_node(
+            gates, net, width, wires, spans, marks, region, 9, place, counters,
+        ),
+        10 => begin_node(
+            gates, net, width, wires, spans, marks, region, 10, place, counters,
+        ),
+        11 => begin_node(
+            gates, net, width, wires, spans, marks, region, 11, place, counters,
+        ),
+        12 => begin_node(
+            gates, net, width, wires, spans, marks, region, 12, place, counters,
+        ),
+        13 => begin_node(
+            gates, net, width, wires, spans, marks, region, 13, place, counters,
+        ),
+        _ => begin_node(
+            gates, net, width, wires, spans, marks, region, kind, place, counters,
+        ),
+    }
+}
+
 /// The nodes of `count` kinds from `from` on, at a place, begin to wait, or go into the queue.
-// Inlined always, as what it calls: so the width of a family is a constant, and no node costs a division.
 #[inline(always)]
 fn begin_place<G: Gates>(
     gates: &G,
@@ -79,10 +183,18 @@ fn begin_place<G: Gates>(
 {
     let _size = counters.size();
     for k in 0..count {
-        let kind = from + k;
-        let gate = gates.gate(net, marks, region, kind, place);
-        let inputs = inputs_asked(net, region, width, wires, spans, gate, kind, place);
-        begin(counters, place * width + kind, gate, inputs);
+        begin_kind(
+            gates,
+            net,
+            width,
+            wires,
+            spans,
+            marks,
+            region,
+            from + k,
+            place,
+            counters,
+        );
     }
 }
 

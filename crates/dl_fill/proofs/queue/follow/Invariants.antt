@@ -3,7 +3,7 @@ use Rattle.std.specs.List.{fold}
 use Rattle.dl_net.specs.Numbers.{next}
 use Rattle.dl_fill.specs.Counters.{hit}
 use Rattle.dl_fill.specs.Wires.{through}
-use Rattle.dl_fill.proofs.queue.send.Given as goal
+use Rattle.dl_fill.proofs.queue.follow.Given as goal
 
 abbrev pub invariant-loop-at : goal.invariant-loop-at
 invariant-loop-at l = record {
