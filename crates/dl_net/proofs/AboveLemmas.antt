@@ -232,10 +232,16 @@ module _ (T : TheoryLists) (ls : List Literal) (lines : List Line) (distinct : I
 pub flat_map-push : {X A : Type 0} (f : X → List A) (xs : List X) (x : X) → flat_map f (xs ++ x ∷ []) ≡ flat_map f xs ++ f x
 flat_map-push f xs x = flat_map-append f xs (x ∷ []) ∙ ap (λ ys. flat_map f xs ++ ys) (append-nil (f x))
 
--- the numbers of a rule's literals are those of names
+-- the numbers of literals that are there are those of names
+pub numbers_within : (ls : List Literal) (w : ℕ) (qs : List Literal) → IsDistinct ls → All (Contains ls) qs → length ls ≤ w
+    → All (λ b. b < w) (map (number_in ls) qs)
+numbers_within ls w qs distinct there wide =
+    All-map (λ b. b < w) (number_in ls) qs
+    (All-weaker (Contains ls) (λ q. number_in ls q < w) (λ q m. let at = number_within ls q distinct m in omega (arith, at.0, wide)) qs there)
+
+-- so are those of a rule's literals
 pub line_within : (ls : List Literal) (w : ℕ) (r : Rule) → IsDistinct ls → HasLiterals ls r → length ls ≤ w → IsWithin w (line_in ls r)
 line_within ls w r distinct h wide = (
   (let at = number_within ls r.head distinct h.0 in omega (arith, at.0, wide)),
-  All-map (λ b. b < w) (number_in ls) r.body
-      (All-weaker (Contains ls) (λ q. number_in ls q < w) (λ q m. let at = number_within ls q distinct m in omega (arith, at.0, wide)) r.body h.1),
+  numbers_within ls w r.body distinct h.1 wide,
 )

@@ -47,7 +47,8 @@ module _ {X : Type 0} (f : X → List ℕ) (q : ℕ) where
       omega (arith, length-append (replicate (times q (f y)) k) (places_from f (suc k) xs q), row_some xs (suc k) i x (omega (arith, lt)) is h)
 
 -- whether a number stands in a list
-stands : (xs : List ℕ) (n : ℕ) → Decides (is_in xs n) (Contains xs n)
+-- a test tells whether a number stands in a list
+pub stands : (xs : List ℕ) (n : ℕ) → Decides (is_in xs n) (Contains xs n)
 stands xs n = is_member-Decides Decides-eqb xs n
 
 one_true : (b : Bool) → 0 < one b → b ≡ true

@@ -212,8 +212,3 @@ pub numbered : (new ls : List Literal) (q : Literal) (n : ℕ) → IsDistinct ne
     → position (literal_eq q) new ≡ Some n
 numbered new ls q n distinct is first =
     position_is new n q distinct (ap (slice_get new) first ∙ ap (λ ks. slice_get ks (length ls)) is ∙ new_at ls q (complement q ∷ []))
-
-pub numbered_new : {E : Type 0} (r : Result ℕ E) (ls new : List Literal) (q : Literal) → IsDistinct new → OnOk r (new ≡ ls ++ q ∷ complement q ∷ [])
-    → IfOk r (λ n. n ≡ length ls) → IfOk r (λ n. position (literal_eq q) new ≡ Some n)
-numbered_new (Ok n) ls new q distinct is first = numbered new ls q n distinct is first
-numbered_new (Err e) ls new q distinct is first = tt

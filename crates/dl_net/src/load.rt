@@ -16,6 +16,7 @@ use crate::entry::Entry;
 use crate::index::Index;
 use crate::names::PairedNames;
 use crate::number::number_rule;
+use crate::region::Region;
 use dl_base::Memory;
 use dl_theory::{Pair, Rule, Theory};
 use std::alloc::Global;
@@ -61,6 +62,7 @@ fn numbered(
     alloc: Global,
     rule: &Rule,
     names: &mut PairedNames,
+    seen: &mut Region,
     index: &mut Index,
 ) -> Result<Entry, Memory>
     requires { IsPaired names.old.literals }
@@ -73,7 +75,7 @@ fn numbered(
     ensures line { IfOk result (λ e. e ≡ line_in names.new.literals rule.now) }
     ensures within { IfOk result (IsWithin index.new.width) }
 {
-    let entry = number_rule(alloc, names, rule)?;
+    let entry = number_rule(alloc, names, seen, rule)?;
     index.widen(names.len())?;
     Ok(entry)
 }
@@ -94,7 +96,8 @@ pub(crate) fn room_for_rule(
     ensures kept { KeepsRules index.old index.new }
     ensures ready { OnOk result (index.new.ready ≡ Some (line_in names.new.literals rule.now)) }
 {
-    let entry = numbered(alloc, rule, names, index)?;
+    let mut seen = Region::none(alloc);
+    let entry = numbered(alloc, rule, names, &mut seen, index)?;
     index.reserve(entry)
 }
 
@@ -103,6 +106,7 @@ fn load_rule(
     alloc: Global,
     rule: &Rule,
     names: &mut PairedNames,
+    seen: &mut Region,
     index: &mut Index,
 ) -> Result<(), Memory>
     requires { IsPaired names.old.literals }
@@ -116,7 +120,7 @@ fn load_rule(
     ensures uppers { OnOk result (index.new.uppers ≡ index.old.uppers ++ [] ∷ []) }
     ensures numbers { OnOk result (index.new.numbers ≡ index.old.numbers + 1) }
 {
-    let entry = numbered(alloc, rule, names, index)?;
+    let entry = numbered(alloc, rule, names, seen, index)?;
     index.add(entry)
 }
 
@@ -143,8 +147,9 @@ fn load_rules(
     ensures numbers { OnOk result (index.new.numbers ≡ length rules.now) }
 {
     let _count = names.len();
+    let mut seen = Region::none(alloc);
     for rule in rules {
-        load_rule(alloc, rule, names, index)?;
+        load_rule(alloc, rule, names, &mut seen, index)?;
     }
     Ok(())
 }

@@ -105,9 +105,10 @@ impl PairedNames {
         }
     }
 
-    /// The number of a literal, which gets one beside its complement if it has none. Most have one, and cost one look-up and no copy.
+    /// The number of a literal, which gets one beside its complement if it has none. One that is likely to be new is put in at once, and
+    /// sought only where it was there before; any other is sought first. So it mostly costs one look-up, and no copy in vain.
     #[inline(always)]
-    pub fn number(&mut self, literal: &Literal) -> Result<usize, Memory>
+    pub fn number(&mut self, literal: &Literal, likely_new: bool) -> Result<usize, Memory>
         ensures named { OnOk result (self.new.literals ≡ with_both self.old.literals literal.now) }
         ensures number { IfOk result (λ n. position (literal_eq literal.now) self.new.literals ≡ Some n) }
         ensures small { IfOk result (λ n. n < 2 ^ 32) }
@@ -116,16 +117,18 @@ impl PairedNames {
         ensures distinct { IsDistinct self.new.literals }
         ensures paired { IsPaired self.new.literals }
     {
+        if likely_new {
+            return self.put_or_find(literal);
+        }
         match self.find(literal) {
             Some(number) => Ok(number),
-            None => self.add(literal),
+            None => self.put_or_find(literal),
         }
     }
 
-    /// The number of a literal, as `number` gives it. The literal is put in at once, and sought only where it was there before: where most
-    /// have no number yet, that saves a look-up.
+    /// The number of a literal, as `number` gives it: put in, or else found.
     #[inline(always)]
-    pub fn number_new(&mut self, literal: &Literal) -> Result<usize, Memory>
+    fn put_or_find(&mut self, literal: &Literal) -> Result<usize, Memory>
         ensures named { OnOk result (self.new.literals ≡ with_both self.old.literals literal.now) }
         ensures number { IfOk result (λ n. position (literal_eq literal.now) self.new.literals ≡ Some n) }
         ensures small { IfOk result (λ n. n < 2 ^ 32) }
@@ -137,7 +140,10 @@ impl PairedNames {
         let _len = self.len();
         match self.put(literal)? {
             Some(number) => Ok(number),
-            None => self.number(literal),
+            None => match self.find(literal) {
+                Some(number) => Ok(number),
+                None => Err(Memory),
+            },
         }
     }
 
@@ -160,25 +166,6 @@ impl PairedNames {
         }
         self.frozen = false;
         Ok(Some(2 * place))
-    }
-
-    /// Numbers a literal that has no number, and its complement, or neither.
-    #[inline(always)]
-    fn add(&mut self, literal: &Literal) -> Result<usize, Memory>
-        requires { ¬ Contains self.old.literals literal.now }
-        ensures added { OnOk result (self.new.literals ≡ self.old.literals ++ literal.now ∷ complement literal.now ∷ []) }
-        ensures number { IfOk result (λ n. n ≡ length self.old.literals) }
-        ensures small { IfOk result (λ n. n < 2 ^ 32) }
-        ensures kept { OnErr result (self.new.literals ≡ self.old.literals) }
-        ensures frozen { OnOk result (self.new.frozen ≡ false) }
-    {
-        let place = self.pairs.len();
-        if place >= PAIR_LIMIT {
-            return Err(Memory);
-        }
-        self.pairs.insert(Both::of(literal)?)?;
-        self.frozen = false;
-        Ok(2 * place)
     }
 
     /// From here on the names can be shared.
@@ -208,7 +195,7 @@ fn copied(alloc: Global, pairs: &[Both]) -> Result<PairedNames, Memory>
 {
     let mut names = PairedNames::with_room(alloc, pairs.len())?;
     for both in pairs {
-        names.add(both.first())?;
+        names.number(both.first(), true)?;
     }
     Ok(names)
 }

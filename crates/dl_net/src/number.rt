@@ -10,19 +10,24 @@ ghost use Rattle.dl_net.specs.Lines.{once_or};
 use crate::body::BodyNumbers;
 use crate::entry::Entry;
 use crate::names::PairedNames;
+use crate::region::Region;
 use crate::row::Row;
 use crate::table::Table;
 use dl_base::Memory;
 use dl_lit::Literal;
 use dl_theory::{Kind, Rule};
-use indexmap::IndexSet;
 use std::alloc::Global;
 
 /// Bodies are shorter, so that what a node of a fill waits for is counted in few bits.
 const BODY_LIMIT: usize = 0x400_0000;
 
-/// The number of a literal, which gets one beside its complement if it has none.
-pub(crate) fn number_literal(names: &mut PairedNames, literal: &Literal) -> Result<u32, Memory>
+/// The number of a literal, which gets one beside its complement if it has none. One that is likely to be new is put in before it is sought.
+#[inline(always)]
+fn number_literal(
+    names: &mut PairedNames,
+    literal: &Literal,
+    likely_new: bool,
+) -> Result<u32, Memory>
     requires { IsPaired names.old.literals }
     ensures paired { IsPaired names.new.literals }
     ensures distinct { IsDistinct names.new.literals }
@@ -31,7 +36,7 @@ pub(crate) fn number_literal(names: &mut PairedNames, literal: &Literal) -> Resu
     ensures number { IfOk result (λ n. n ≡ number_in names.new.literals literal.now) }
     ensures same { Contains names.old.literals literal.now → names.new ≡ names.old }
 {
-    let number = names.number(literal)?;
+    let number = names.number(literal, likely_new)?;
     Ok(number as u32)
 }
 
@@ -53,7 +58,7 @@ fn number_literals(
 {
     let mut numbers = Row::make();
     for literal in literals {
-        numbers.push(alloc, number_literal(names, literal)?)?;
+        numbers.push(alloc, number_literal(names, literal, false)?)?;
     }
     Ok(numbers)
 }
@@ -64,6 +69,7 @@ fn number_literals(
 pub(crate) fn number_rule(
     alloc: Global,
     names: &mut PairedNames,
+    seen: &mut Region,
     rule: &Rule,
 ) -> Result<Entry, Memory>
     requires { IsPaired names.old.literals }
@@ -74,38 +80,99 @@ pub(crate) fn number_rule(
     ensures line { IfOk result (λ e. e ≡ line_in names.new.literals rule.now) }
     ensures same { HasLiterals names.old.literals rule.now → names.new ≡ names.old }
 {
-    let head = number_literal(names, &rule.head)?;
+    let head = number_literal(names, &rule.head, false)?;
     let body = number_literals(alloc, names, rule.body.as_slice())?;
-    entry_of(alloc, rule.kind, head, body)
+    entry_of(alloc, names.len(), seen, rule.kind, head, body)
 }
 
-/// A rule of these numbers.
+/// A rule of these numbers, where there are so many.
 #[inline(always)]
-fn entry_of(alloc: Global, kind: Kind, head: u32, numbers: Row) -> Result<Entry, Memory>
+fn entry_of(
+    alloc: Global,
+    names: usize,
+    seen: &mut Region,
+    kind: Kind,
+    head: u32,
+    numbers: Row,
+) -> Result<Entry, Memory>
+    requires { All (λ n. n < names) numbers.items }
     ensures { IfOk result (λ e. e ≡ record { kind = kind; head = head; body = numbers.items }) }
 {
     if numbers.len() >= BODY_LIMIT {
         return Err(Memory);
     }
-    let once = once_of(alloc, numbers.as_slice())?;
+    let once = once_of(alloc, names, seen, numbers.as_slice())?;
     let body = BodyNumbers::make(alloc, numbers, once)?;
     Ok(Entry { kind, head, body })
 }
 
-/// The numbers, each where it first stands; `None` where none stands twice.
+/// The numbers, each where it first stands; `None` where none stands twice. There are so many numbers in all.
 #[inline(always)]
-fn once_of(alloc: Global, numbers: &[u32]) -> Result<Option<Row>, Memory>
+fn once_of(
+    alloc: Global,
+    names: usize,
+    seen: &mut Region,
+    numbers: &[u32],
+) -> Result<Option<Row>, Memory>
+    requires { All (λ n. n < names) numbers.now }
     ensures { IfOk result (λ once. once_or once numbers.now ≡ each_once numbers.now) }
 {
     // most bodies are short and without repeats, and need no memory
     if numbers.len() <= 8 && once_len(numbers) == numbers.len() {
         return Ok(None);
     }
-    let once = firsts(alloc, numbers)?;
-    if once.len() == numbers.len() {
+    once_among(alloc, names, seen, numbers)
+}
+
+/// The same for any numbers. What was met stands in a region that one body leaves to the next, so that no body needs a set of its own.
+fn once_among(
+    alloc: Global,
+    names: usize,
+    seen: &mut Region,
+    numbers: &[u32],
+) -> Result<Option<Row>, Memory>
+    requires { All (λ n. n < names) numbers.now }
+    ensures { IfOk result (λ once. once_or once numbers.now ≡ each_once numbers.now) }
+{
+    make_room(alloc, names, seen)?;
+    gather(seen, numbers);
+    if seen.len() == numbers.len() {
         return Ok(None);
     }
+    let once = row_of(alloc, seen.members())?;
     Ok(Some(once))
+}
+
+/// Room for so many numbers. Where there is none, it is made for twice as many: names grow from rule to rule.
+fn make_room(alloc: Global, names: usize, seen: &mut Region) -> Result<(), Memory>
+    ensures { OnOk result (names ≤ seen.new.bound) }
+{
+    if seen.bound() < names {
+        *seen = Region::make(alloc, names.saturating_mul(2))?;
+    }
+    Ok(())
+}
+
+/// The numbers, each where it first stands, as the members of a region.
+fn gather(seen: &mut Region, numbers: &[u32])
+    requires { All (λ n. n < seen.old.bound) numbers.now }
+    ensures { seen.new.members ≡ each_once numbers.now }
+{
+    seen.clear();
+    for number in numbers {
+        seen.put(*number as usize);
+    }
+}
+
+/// A list of these numbers.
+fn row_of(alloc: Global, numbers: &[u32]) -> Result<Row, Memory>
+    ensures { IfOk result (λ row. row.items ≡ numbers.now) }
+{
+    let mut row = Row::make();
+    for number in numbers {
+        row.push(alloc, *number)?;
+    }
+    Ok(row)
 }
 
 /// How many numbers there are, each counted once. Each is sought among those before it, so the list is to be short.
@@ -119,35 +186,6 @@ fn once_len(numbers: &[u32]) -> usize
         }
     }
     count
-}
-
-/// The numbers, each where it first stands.
-fn firsts(alloc: Global, numbers: &[u32]) -> Result<Row, Memory>
-    ensures { IfOk result (λ once. once.items ≡ each_once numbers.now) }
-{
-    let mut seen = IndexSet::new(alloc);
-    let mut once = Row::make();
-    for number in numbers {
-        if seen.insert(*number)? {
-            once.push(alloc, *number)?;
-        }
-    }
-    Ok(once)
-}
-
-/// The number of a fact, as `number_literal` gives it. It is put in before it is sought, since most facts have no number yet.
-#[inline(always)]
-fn number_new(names: &mut PairedNames, fact: &Literal) -> Result<u32, Memory>
-    requires { IsPaired names.old.literals }
-    ensures paired { IsPaired names.new.literals }
-    ensures distinct { IsDistinct names.new.literals }
-    ensures grown { Grows (IsNear (fact.now ∷ [])) names.old.literals names.new.literals }
-    ensures there { OnOk result (Contains names.new.literals fact.now) }
-    ensures number { IfOk result (λ n. n ≡ number_in names.new.literals fact.now) }
-    ensures same { Contains names.old.literals fact.now → names.new ≡ names.old }
-{
-    let number = names.number_new(fact)?;
-    Ok(number as u32)
 }
 
 /// The number of a fact, which gets one beside its complement if it has none, and a mark that is not set.
@@ -166,7 +204,8 @@ pub(crate) fn number_fact(
     ensures kept { (qs : List Literal) → HasFacts names.new.literals qs marks.old.items → HasFacts names.new.literals qs marks.new.items }
     ensures room { OnOk result (length names.new.literals ≤ length marks.new.items) }
 {
-    let number = number_new(names, fact)?;
+    // most facts have no number yet
+    let number = number_literal(names, fact, true)?;
     if marks.len() < names.len() {
         marks.widen(names.len(), false)?;
     }

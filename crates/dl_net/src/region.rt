@@ -85,6 +85,20 @@ impl Region {
         self.members.clear();
     }
 
+    /// The numbers below it can be members.
+    pub(crate) fn bound(&self) -> usize
+        ensures { result ≡ self.now.bound }
+    {
+        self.bound
+    }
+
+    /// The members, in order.
+    pub(crate) fn members(&self) -> &[u32]
+        ensures { result.now ≡ self.now.members }
+    {
+        self.members.as_slice()
+    }
+
     /// Whether a number is a member.
     pub fn holds(&self, number: usize) -> bool
         requires { number < self.now.bound }

@@ -1,4 +1,4 @@
-use Rattle.std.proofs.Common.{◌≡◌, [], ◌∷◌, List, map, sym, subst, ◌∙◌}
+use Rattle.std.proofs.Common.{◌≡◌, ◌<◌, [], ◌∷◌, ℕ, List, map, sym, subst, ◌∙◌, arith}
 use Rattle.std.specs.Prelude.{All, Contains}
 use Rattle.std.proofs.lemmas.Result.{IfOk-weaker}
 use Rattle.dl_lit.specs.declared.literal.Literal.{Literal}
@@ -6,6 +6,7 @@ use Rattle.dl_lit.specs.Names.{Numbering}
 use Rattle.dl_net.specs.Named.{IsNear, HasLiterals, Grows, number_in, line_in}
 use Rattle.dl_net.proofs.NameLemmas.{Grows-trans, Grows-weaker, Grows-keeps, near_head, near_tail, ok_from}
 use Rattle.dl_net.proofs.NetLemmas.{number_kept}
+use Rattle.dl_net.proofs.AboveLemmas.{numbers_within}
 use Rattle.dl_net.proofs.number.number_rule.Goals as goal
 
 grown_by : (q : Literal) (body xs a b c : List Literal) → xs ≡ body → Grows (IsNear (q ∷ [])) a b → Grows (IsNear xs) b c → Grows (IsNear (q ∷ body)) a c
@@ -68,3 +69,9 @@ pub returns-clause-same : goal.returns-clause-same
 returns-clause-same c =
     same_by c.args.names.now c.number_literal.new.names c.number_literals.new.names c.args.rule.now.head c.args.rule.now.body c.as_slice.result.now c.as_slice.ensures
     c.number_literal.ensures.same c.number_literals.ensures.same
+
+pub entry_of-requires : goal.entry_of-requires
+entry_of-requires c =
+    subst (λ (ns : List ℕ). All (λ n. n < c.len.result) ns) (sym c.in_ok-body.ensures.numbers)
+    (numbers_within c.number_literals.new.names.literals c.len.result c.as_slice.result.now c.number_literals.ensures.distinct c.in_ok-body.ensures.there
+    (omega (arith, c.len.ensures.len)))

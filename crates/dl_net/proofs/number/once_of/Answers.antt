@@ -1,11 +1,6 @@
-use Rattle.std.proofs.Common.{sym, ap, ◌∙◌, length, arith}
+use Rattle.std.proofs.Common.{sym, ◌∙◌}
 use Rattle.dl_net.proofs.OnceLemmas.{each_once_full}
 use Rattle.dl_net.proofs.number.once_of.Goals as goal
 
 pub returns-then-once_len-numbers : goal.returns-then-once_len-numbers
 returns-then-once_len-numbers c = sym (each_once_full c.args.numbers.now (sym c.once_len.ensures ∙ c.if-once_len-numbers.true))
-
-pub returns-then-len-numbers : goal.returns-then-len-numbers
-returns-then-len-numbers c =
-    sym (each_once_full c.args.numbers.now
-    (omega (arith, c.len.ensures, c.if-len-numbers.true, ap length c.in_ok-once.ensures)))

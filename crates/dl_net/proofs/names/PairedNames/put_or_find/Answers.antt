@@ -1,12 +1,13 @@
 use Rattle.std.proofs.Common.{◌≡◌, ℕ, ◌++◌, ◌∷◌, [], List, Option, length, sym, subst, ◌∙◌}
-use Rattle.std.specs.Prelude.{Contains, IfSome}
+use Rattle.std.specs.Prelude.{Contains, IfSome, IfNone}
 use Rattle.dl_base.specs.Paths.{IsDistinct}
 use Rattle.dl_lit.specs.declared.literal.Literal.{Literal}
 use Rattle.dl_lit.specs.Literal.{complement}
+use Rattle.dl_lit.specs.Names.{Numbering, with_both}
 use Rattle.dl_net.specs.Named.{IsPaired}
-use Rattle.dl_net.proofs.NameLemmas.{paired_push, both_new, both_distinct}
+use Rattle.dl_net.proofs.NameLemmas.{paired_push, found_at, both_old, both_new, both_distinct}
 use Rattle.dl_net.proofs.PairLemmas.{numbered}
-use Rattle.dl_net.proofs.names.PairedNames.number_new.Goals as goal
+use Rattle.dl_net.proofs.names.PairedNames.put_or_find.Goals as goal
 
 pub returns-in-Some-clause-named : goal.returns-in-Some-clause-named
 returns-in-Some-clause-named c =
@@ -42,3 +43,13 @@ returns-in-Some-clause-number c =
     let first : c.in-Some.number ≡ length ls =
     subst (λ (o : Option ℕ). IfSome o (λ n. n ≡ length ls)) c.in-Some.is c.in_ok-number.ensures.number in
     numbered c.put.new.self.literals ls q c.in-Some.number (returns-in-Some-clause-distinct c) added first
+
+pub returns-in-Some-find-clause-named : goal.returns-in-Some-find-clause-named
+returns-in-Some-find-clause-named c =
+    let old : Numbering = c.args.self.now in
+    let new : Numbering = c.put.new.self in
+    let q : Literal = c.args.literal.now in
+    let same : new ≡ old = subst (λ (o : Option ℕ). IfNone o (new ≡ old)) c.in-None.is c.in_ok-number.ensures.same in
+    let f = found_at new.literals q c.in-Some-find.number (sym c.in-Some-find.ensures.number) in
+    sym (both_old new.literals q c.in-Some-find.ensures.paired (c.in-Some-find.number, f.0, f.1 q))
+    ∙ (λ i. with_both (same i).literals q)
