@@ -36,6 +36,14 @@ impl Places {
         }
     }
 
+    /// Makes room for as many more places.
+    pub(crate) fn reserve(&mut self, more: usize) -> Result<(), Memory>
+        ensures { (q : Link) → place_of self.new q ≡ place_of self.old q }
+    {
+        self.map.reserve(more)?;
+        Ok(())
+    }
+
     pub(crate) fn get(&self, link: Link) -> Option<usize>
         ensures { result ≡ place_of self.now link }
     {

@@ -83,6 +83,14 @@ impl Table {
         find(self.slots.as_slice(), &self.places, pair).is_some()
     }
 
+    /// Makes room for as many more pairs, so that the lists do not grow step by step.
+    fn reserve(&mut self, more: usize) -> Result<(), Memory>
+        ensures { self.new ≡ self.old }
+    {
+        self.slots.reserve(more)?;
+        self.places.reserve(more)
+    }
+
     /// Adds a new pair at the end.
     pub(crate) fn put(&mut self, pair: Link) -> Result<(), Memory>
         requires { ¬ Contains self.old pair }
@@ -134,6 +142,7 @@ impl Table {
         ensures { IfOk result (λ table. table ≡ self.now) }
     {
         let mut fresh = Table::make(self.alloc());
+        fresh.reserve(self.slots.len())?;
         for slot in self.slots.iter() {
             put_slot(&mut fresh, *slot)?;
         }
@@ -145,6 +154,7 @@ impl Table {
         requires { IsDistinct self.old }
         ensures { IfOk result (λ whole. whole ≡ true → (self.new ≡ self.old ++ links.now) × IsDistinct self.new) }
     {
+        self.reserve(links.len())?;
         for link in links {
             if self.has(*link) {
                 return Ok(false);
