@@ -3,7 +3,6 @@ use Rattle.std.proofs.Common.{◌≡◌, ◌≢◌, ℕ, ◌<◌, Bool, true, fa
 use Rattle.std.specs.Prelude.{Contains, OnOk, OnErr, filter}
 use Rattle.std.specs.List.{list_any}
 use Rattle.std.specs.Str.{bytes_eq}
-use Rattle.std.proofs.lemmas.Slice.Eq.{bytes_eq-Decides}
 use Rattle.std.proofs.lemmas.List.{map-append}
 use Rattle.std.proofs.lemmas.List.Elements.{All-weaker, All-push, All-filter, Contains-append_left, Contains-push_cases, filter_passes}
 use Rattle.std.proofs.lemmas.List.Kept.{AllPairs-filter}
@@ -40,9 +39,6 @@ add_fact_keeps T q h new room = record {
   few_rules = h.few_rules;
   few_pairs = h.few_pairs;
 }
-
-pub absent_label : (labels : List (List ℕ)) (label : List ℕ) → (¬ Contains labels label) → list_any (bytes_eq label) labels ≡ false
-absent_label labels label new = false_unless (list_any (bytes_eq label) labels) (is_member-Decides bytes_eq-Decides labels label) new
 
 pub add_rule_keeps : (T : TheoryLists) (r : Rule) → IsWellFormed T → (¬ Contains (labels T) r.label) → length T.rules < 1000000
     → IsWellFormed (after_edit T (AddRule r))

@@ -11,15 +11,6 @@ pub(crate) fn holds_label(labels: &NameSet<Name>, label: &Name) -> bool
     labels.contains(label)
 }
 
-pub(crate) fn append_label(labels: &mut NameSet<Name>, label: Name) -> Result<(), Memory>
-    requires { ¬ Contains labels.old.keys label }
-    ensures ok { OnOk result (labels.new.keys ≡ labels.old.keys ++ label ∷ []) }
-    ensures err { OnErr result (labels.new.keys ≡ labels.old.keys) }
-{
-    labels.insert(label)?;
-    Ok(())
-}
-
 /// Adds a label at the end where it is new, and tells whether it is.
 #[inline(always)]
 pub(crate) fn insert_label(labels: &mut NameSet<Name>, label: Name) -> Result<bool, Memory>
@@ -39,4 +30,29 @@ pub(crate) fn place_of(labels: &NameSet<Name>, label: &Name) -> Option<usize>
     ensures absent { result ≡ None → ¬ Contains labels.now.keys label.now }
 {
     labels.get_index_of(label)
+}
+
+/// The place of a label. One place is tried first, which may be any number: where the label stands there, it is not looked up.
+#[inline(always)]
+pub(crate) fn place_near(labels: &NameSet<Name>, label: &Name, hint: usize) -> Option<usize>
+    ensures within { IfSome result (λ at. at < length labels.now.keys) }
+    ensures there { IfSome result (λ at. slice_index_or labels.now.keys at [] ≡ label.now) }
+    ensures absent { result ≡ None → ¬ Contains labels.now.keys label.now }
+{
+    if stands_at(labels, label, hint) {
+        return Some(hint);
+    }
+    place_of(labels, label)
+}
+
+/// Whether a label stands at a place.
+#[inline(always)]
+pub(crate) fn stands_at(labels: &NameSet<Name>, label: &Name, at: usize) -> bool
+    ensures within { IsTrue result → at < length labels.now.keys }
+    ensures there { IsTrue result → slice_index_or labels.now.keys at [] ≡ label.now }
+{
+    match labels.get_index(at) {
+        None => false,
+        Some(found) => *found == *label,
+    }
 }

@@ -11,7 +11,7 @@ ghost use Rattle.dl_theory.specs.Pairs.{pair_eq, Closes, label_at, IsWithin, IsN
 ghost use Rattle.dl_theory.specs.Superiority.{IsPairStop, IsLinkStop, AddsAll, OrdersAll, moved_back};
 ghost use Rattle.std.specs.Option.{option_map_or, option_map, IfSome};
 
-use crate::labels::{append_label, place_of};
+use crate::labels::{place_of, stands_at};
 use crate::lists::Path;
 use crate::rule::Pair;
 use crate::theory::LIMIT;
@@ -19,6 +19,16 @@ use dl_lit::{Memory, Name, NameSet, name_set};
 use dl_sup::{Link, LoadStop, Order, SupStop};
 use std::alloc::Global;
 use std::marker::Model;
+
+/// The places that the rules of a pair had when it was added. They are tried first where these rules are sought, and nothing rests on
+/// them: a rule that was dropped since has moved others.
+#[derive(Clone, Copy)]
+pub(crate) struct PairHint {
+    pub upper: u32,
+    pub lower: u32,
+}
+
+const NO_HINT: PairHint = PairHint { upper: 0, lower: 0 };
 
 /// Why a pair was not added whose labels are there and which is not in the list.
 #[derive(Drop)]
@@ -60,6 +70,8 @@ impl From<Memory> for PairStop {
 #[derive(Drop)]
 pub(crate) struct Superiority {
     pairs: Vec<Pair>,
+    /// For each pair its hint, a wrong one, or none.
+    hints: Vec<PairHint>,
     items: NameSet<Name>,
     order: Order,
 }
@@ -83,6 +95,7 @@ impl Superiority {
     {
         Superiority {
             pairs: Vec::new(alloc),
+            hints: Vec::new(alloc),
             items: name_set(alloc),
             order: Order::make(alloc),
         }
@@ -110,11 +123,15 @@ impl Superiority {
     }
 
     /// The pairs of a list, or those before the first that is refused.
-    pub fn load(alloc: Global, pairs: &[Pair]) -> Result<(Superiority, Option<PairRefused>), Memory>
+    pub fn load(
+        alloc: Global,
+        pairs: &[Pair],
+        hints: Vec<PairHint>,
+    ) -> Result<(Superiority, Option<PairRefused>), Memory>
         ensures { IfOk result (λ r. AddsAll [] r.0 pairs.now r.1) }
     {
         let mut items = name_set(alloc);
-        let links = number_all(alloc, &mut items, pairs)?;
+        let links = number_all(alloc, &mut items, pairs, hints.as_slice())?;
         let (order, refused) = order_of(alloc, items.as_slice(), links.as_slice())?;
         let kept = kept_len(&refused, pairs.len());
         let mut front = Vec::with_capacity(alloc, kept)?;
@@ -122,6 +139,7 @@ impl Superiority {
         Ok((
             Superiority {
                 pairs: front,
+                hints,
                 items,
                 order,
             },
@@ -130,20 +148,28 @@ impl Superiority {
     }
 
     /// Adds pairs at the end, or those before the first that is refused.
-    pub fn add_all(&mut self, pairs: &[Pair]) -> Result<Option<PairRefused>, Memory>
+    pub fn add_all(
+        &mut self,
+        pairs: &[Pair],
+        hints: Vec<PairHint>,
+    ) -> Result<Option<PairRefused>, Memory>
         requires distinct { IsDistinct self.old }
         requires acyclic { ¬ HasCycle (IsAbove self.old) }
         requires few { length self.old ≤ 1000000 }
         ensures added { IfOk result (AddsAll self.old self.new pairs.now) }
         ensures kept { OnErr result (self.new ≡ self.old) }
     {
-        let (extended, refused) = self.extended(pairs)?;
+        let (extended, refused) = self.extended(pairs, hints)?;
         *self = extended;
         Ok(refused)
     }
 
     /// This list with further pairs, or with those before the first that is refused.
-    fn extended(&self, pairs: &[Pair]) -> Result<(Superiority, Option<PairRefused>), Memory>
+    fn extended(
+        &self,
+        pairs: &[Pair],
+        hints: Vec<PairHint>,
+    ) -> Result<(Superiority, Option<PairRefused>), Memory>
         requires distinct { IsDistinct self.now }
         requires acyclic { ¬ HasCycle (IsAbove self.now) }
         requires few { length self.now ≤ 1000000 }
@@ -152,15 +178,20 @@ impl Superiority {
         let alloc = *self.pairs.allocator();
         let old = self.len();
         if old == 0 {
-            return Superiority::load(alloc, pairs);
+            return Superiority::load(alloc, pairs, hints);
         }
+        let hints = joined_hints(alloc, self.hints.as_slice(), old, hints.as_slice())?;
         let all = joined(alloc, self.pairs.as_slice(), pairs)?;
-        let (extended, refused) = Superiority::load(alloc, all.as_slice())?;
+        let (extended, refused) = Superiority::load(alloc, all.as_slice(), hints)?;
         Ok((extended, later(refused, old)))
     }
 
     /// The same, where a pair that finds the list full is refused.
-    pub fn add_within_limit(&mut self, pairs: &[Pair]) -> Result<Option<PairRefused>, Memory>
+    pub fn add_within_limit(
+        &mut self,
+        pairs: &[Pair],
+        hints: Vec<PairHint>,
+    ) -> Result<Option<PairRefused>, Memory>
         requires distinct { IsDistinct self.old }
         requires acyclic { ¬ HasCycle (IsAbove self.old) }
         requires few { length self.old ≤ 1000000 }
@@ -170,9 +201,9 @@ impl Superiority {
     {
         let room = LIMIT - self.len();
         if pairs.len() <= room {
-            return self.add_all(pairs);
+            return self.add_all(pairs, hints);
         }
-        let refused = self.add_all(&pairs[..room + 1])?;
+        let refused = self.add_all(&pairs[..room + 1], hints)?;
         if refused.is_some() {
             return Ok(refused);
         }
@@ -188,7 +219,9 @@ impl Superiority {
         requires few { length self.now ≤ 1000000 }
         ensures { IfOk result (λ copy. copy ≡ self.now) }
     {
-        let (copy, refused) = Superiority::load(*self.pairs.allocator(), self.pairs.as_slice())?;
+        let alloc = *self.pairs.allocator();
+        let hints = joined_hints(alloc, self.hints.as_slice(), self.len(), &[])?;
+        let (copy, refused) = Superiority::load(alloc, self.pairs.as_slice(), hints)?;
         match refused {
             None => Ok(copy),
             Some(_) => unreachable!(),
@@ -245,6 +278,11 @@ impl Superiority {
         self.pairs.get(at)
     }
 
+    /// Where the rules of the pair at a place are tried first.
+    pub fn hint(&self, at: usize) -> PairHint {
+        hint_at(self.hints.as_slice(), at)
+    }
+
     pub fn as_slice(&self) -> &[Pair]
         ensures { result.now ≡ self.now }
     {
@@ -260,13 +298,40 @@ fn number(items: &mut NameSet<Name>, label: &Name) -> Result<usize, Memory>
     ensures within { IfOk result (λ n. n < length items.new.keys) }
     ensures names { IfOk result (λ n. label_at items.new.keys n ≡ label.now) }
 {
-    if let Some(at) = place_of(items, label) {
-        return Ok(at);
-    }
-    let label = label.copy()?;
-    let at = items.len();
-    append_label(items, label)?;
+    let (at, _) = items.insert_full(label.copy()?)?;
     Ok(at)
+}
+
+/// The same. The number that the label of the rule at a place had last is tried first.
+fn number_near(
+    items: &mut NameSet<Name>,
+    known: &mut Vec<usize>,
+    label: &Name,
+    place: u32,
+) -> Result<usize, Memory>
+    requires { IsDistinct items.old.keys }
+    ensures distinct { IsDistinct items.new.keys }
+    ensures grown { (more : List (List ℕ)) × (items.new.keys ≡ items.old.keys ++ more) }
+    ensures within { IfOk result (λ n. n < length items.new.keys) }
+    ensures names { IfOk result (λ n. label_at items.new.keys n ≡ label.now) }
+{
+    let hint = known.get(place as usize).copied().unwrap_or(0);
+    if stands_at(items, label, hint) {
+        return Ok(hint);
+    }
+    let number = number(items, label)?;
+    note(known, place, number)?;
+    Ok(number)
+}
+
+/// Notes the number that the label of the rule at a place has.
+fn note(known: &mut Vec<usize>, place: u32, number: usize) -> Result<(), Memory> {
+    let place = place as usize;
+    if known.len() <= place {
+        known.resize(place + 1, 0)?;
+    }
+    known[place] = number;
+    Ok(())
 }
 
 /// The places of both labels of a pair.
@@ -281,15 +346,59 @@ fn number_pair(items: &mut NameSet<Name>, pair: &Pair) -> Result<Link, Memory>
     Ok(Link { upper, lower })
 }
 
-fn number_all(alloc: Global, items: &mut NameSet<Name>, pairs: &[Pair]) -> Result<Vec<Link>, Memory>
+/// The same. The numbers that its rules' labels had last are tried first.
+fn number_pair_near(
+    items: &mut NameSet<Name>,
+    known: &mut Vec<usize>,
+    pair: &Pair,
+    hint: PairHint,
+) -> Result<Link, Memory>
+    requires { IsDistinct items.old.keys }
+    ensures distinct { IsDistinct items.new.keys }
+    ensures grown { (more : List (List ℕ)) × (items.new.keys ≡ items.old.keys ++ more) }
+    ensures number { IfOk result (λ l. IsNumberOf items.new.keys l pair.now) }
+{
+    let upper = number_near(items, known, &pair.upper, hint.upper)?;
+    let lower = number_near(items, known, &pair.lower, hint.lower)?;
+    Ok(Link { upper, lower })
+}
+
+/// The numbers of pairs. A label that stands in many pairs is looked up once, where the hints are right.
+fn number_all(
+    alloc: Global,
+    items: &mut NameSet<Name>,
+    pairs: &[Pair],
+    hints: &[PairHint],
+) -> Result<Vec<Link>, Memory>
     requires { IsDistinct items.old.keys }
     ensures { IfOk result (λ links. IsNumbered items.new.keys links.items pairs.now) }
 {
-    let mut links = Vec::new(alloc);
-    for pair in pairs {
-        links.push(number_pair(items, pair)?)?;
+    let mut known = Vec::new(alloc);
+    let mut links = Vec::with_capacity(alloc, pairs.len())?;
+    for (at, pair) in pairs.iter().enumerate() {
+        let hint = hint_at(hints, at);
+        links.push(number_pair_near(items, &mut known, pair, hint)?)?;
     }
     Ok(links)
+}
+
+fn hint_at(hints: &[PairHint], at: usize) -> PairHint {
+    hints.get(at).copied().unwrap_or(NO_HINT)
+}
+
+/// The hints of as many first pairs, and of those behind them.
+fn joined_hints(
+    alloc: Global,
+    old: &[PairHint],
+    len: usize,
+    new: &[PairHint],
+) -> Result<Vec<PairHint>, Memory> {
+    let mut hints = Vec::with_capacity(alloc, len)?;
+    for at in 0..len {
+        hints.push(hint_at(old, at))?;
+    }
+    hints.extend_from_slice(new)?;
+    Ok(hints)
 }
 
 /// An order of pairs of numbers, or of those before the first that is refused.

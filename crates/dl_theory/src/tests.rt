@@ -156,6 +156,14 @@ fn expect(rt: &impl Abort, alloc: Global, theory: &mut Theory, edit: Edit, want:
     }
 }
 
+/// Compares the places of the rules of a pair.
+fn expect_rules(rt: &impl Abort, theory: &Theory, at: usize, upper: usize, lower: usize) {
+    match theory.pair_rules(at) {
+        Some((above, below)) => assert!(rt; above == upper && below == lower),
+        None => assert!(rt; false),
+    }
+}
+
 #[test]
 fn pairs_are_added_and_dropped_by_the_rows(rt: HostRuntime) {
     let alloc = rt.alloc();
@@ -227,6 +235,27 @@ fn several_pairs_stop_at_the_first_that_is_refused(rt: HostRuntime) {
         _ => assert!(rt; false),
     }
     assert!(rt; theory.pair(2).is_some() && theory.pair(3).is_none());
+    expect_rules(&rt, &theory, 0, 0, 1);
+    expect_rules(&rt, &theory, 1, 1, 2);
+    expect_rules(&rt, &theory, 2, 0, 2);
+    assert!(rt; theory.pair_rules(3).is_none());
+}
+
+#[test]
+fn the_rules_of_a_pair_are_found_where_others_went(rt: HostRuntime) {
+    let alloc = rt.alloc();
+    let mut theory = three_rules(&rt, alloc);
+    let pairs = [pair(&rt, alloc, "r2", "r3")];
+    assert!(rt; theory.add_pairs(&pairs).is_ok());
+    expect_rules(&rt, &theory, 0, 1, 2);
+    let rows = [
+        one(Act::DropRule, "r1", "ok"),
+        one(Act::AddRule, "r4", "ok"),
+        two(Act::AddPair, "r4", "r2", "ok"),
+    ];
+    expect_all(&rt, alloc, &mut theory, &rows);
+    expect_rules(&rt, &theory, 0, 0, 1);
+    expect_rules(&rt, &theory, 1, 2, 0);
 }
 
 #[test]

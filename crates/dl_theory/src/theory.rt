@@ -9,7 +9,7 @@ ghost use Rattle.std.specs.Option.{option_copied};
 use crate::edit::{Edit, EditRefusal, EditStop, PairsStop};
 use crate::rule::{Pair, Rule};
 use crate::rules::Rules;
-use crate::superiority::{PairCause, PairRefused, PairStop, Superiority};
+use crate::superiority::{PairCause, PairHint, PairRefused, PairStop, Superiority};
 use dl_lit::{Literal, Memory, Name, NameSet, name_set};
 use std::alloc::Global;
 use std::marker::Model;
@@ -39,6 +39,7 @@ impl Model for Theory {
 impl Theory {
     ghost use Rattle.dl_theory.specs.Lists.{labels, no_lists, IsAbove, IsWellFormed};
     ghost use Rattle.dl_theory.specs.Edits.{after_edit, after_edits, additions, AreAccepted, IsAccepted, IsStopped, IsPairsStop, HasLabel, HasBoth, IsMissing, IsFront};
+    ghost use Rattle.dl_theory.specs.PairRules.{AreRulesOf};
 
     /// The empty theory.
     pub fn make(alloc: Global) -> Theory
@@ -123,6 +124,23 @@ impl Theory {
         self.pairs.get(at)
     }
 
+    /// The places of the upper and the lower rule of the pair at a place; `None` exactly past the end.
+    pub fn pair_rules(&self, at: usize) -> Option<(usize, usize)>
+        ensures rules { IfSome result (λ r. AreRulesOf self.now at r.0 r.1) }
+        ensures past { IfNone result (length self.now.pairs ≤ at) }
+        ensures well_formed { IsWellFormed self.now }
+    {
+        match self.pairs.get(at) {
+            None => None,
+            Some(pair) => {
+                let hint = self.pairs.hint(at);
+                let upper = self.place_near(&pair.upper, hint.upper);
+                let lower = self.place_near(&pair.lower, hint.lower);
+                Some((upper, lower))
+            }
+        }
+    }
+
     /// The place of the rule with a label; `None` exactly where no rule has it.
     pub fn rule_place(&self, label: &Name) -> Option<usize>
         ensures within { IfSome result (λ at. at < length self.now.rules) }
@@ -193,8 +211,9 @@ impl Theory {
         ensures changed { OnOk result (self.new ≡ after_edits self.old (additions pairs.now)) }
         ensures stopped { IfErr result (IsPairsStop self.old self.new pairs.now) }
     {
-        let (end, missing) = self.labelled_front(pairs)?;
-        let refused = self.pairs.add_within_limit(&pairs[..end])?;
+        let (hints, missing) = self.labelled_front(pairs)?;
+        let end = hints.len();
+        let refused = self.pairs.add_within_limit(&pairs[..end], hints)?;
         outcome_of(refused, missing, end)
     }
 
@@ -237,28 +256,56 @@ impl Theory {
         })
     }
 
-    /// How many pairs come before the first that misses a label, and what it misses.
-    fn labelled_front(&self, pairs: &[Pair]) -> Result<(usize, Option<EditRefusal>), Memory>
-        ensures { IfOk result (λ r. IsFront self.now pairs.now r.0 r.1) }
+    /// The place of the rule with a label that is there. One place is tried first.
+    fn place_near(&self, label: &Name, hint: u32) -> usize
+        requires { HasLabel self.now label.now }
+        ensures within { result < length self.now.rules }
+        ensures there { slice_index_or (labels self.now) result [] ≡ label.now }
     {
-        for (at, pair) in pairs.iter().enumerate() {
-            if let Some(refusal) = self.missing_label(pair)? {
-                return Ok((at, Some(refusal)));
-            }
+        match self.rules.place_near(label, hint as usize) {
+            None => unreachable!(),
+            Some(at) => at,
         }
-        Ok((pairs.len(), None))
     }
 
-    fn missing_label(&self, pair: &Pair) -> Result<Option<EditRefusal>, Memory>
-        ensures { IfOk result (λ r. MatchOption r (HasBoth self.now pair.now) (IsMissing self.now pair.now)) }
+    /// The places of the rules of the pairs before the first that misses a label, and what that one misses.
+    fn labelled_front(&self, pairs: &[Pair]) -> Result<(Vec<PairHint>, Option<EditRefusal>), Memory>
+        ensures { IfOk result (λ r. IsFront self.now pairs.now (length r.0.items) r.1) }
     {
-        if !self.rules.has(&pair.upper) {
-            return Ok(Some(EditRefusal::NoLabel(pair.upper.copy()?)));
+        let mut hints = Vec::with_capacity(*self.facts.allocator(), pairs.len())?;
+        for pair in pairs {
+            match self.hint_of(pair) {
+                None => return Ok((hints, Some(self.missing_label(pair)?))),
+                Some(hint) => hints.push(hint)?,
+            }
         }
-        if !self.rules.has(&pair.lower) {
-            return Ok(Some(EditRefusal::NoLabel(pair.lower.copy()?)));
+        Ok((hints, None))
+    }
+
+    /// The places of both rules of a pair, if both are there.
+    fn hint_of(&self, pair: &Pair) -> Option<PairHint>
+        ensures { MatchOption result (¬ HasBoth self.now pair.now) (λ _. HasBoth self.now pair.now) }
+    {
+        match self.rules.place(&pair.upper) {
+            None => None,
+            Some(upper) => match self.rules.place(&pair.lower) {
+                None => None,
+                Some(lower) => Some(PairHint {
+                    upper: upper as u32,
+                    lower: lower as u32,
+                }),
+            },
         }
-        Ok(None)
+    }
+
+    fn missing_label(&self, pair: &Pair) -> Result<EditRefusal, Memory>
+        requires { ¬ HasBoth self.now pair.now }
+        ensures { IfOk result (IsMissing self.now pair.now) }
+    {
+        if self.rules.has(&pair.upper) {
+            return Ok(EditRefusal::NoLabel(pair.lower.copy()?));
+        }
+        Ok(EditRefusal::NoLabel(pair.upper.copy()?))
     }
 
     #[inline(always)]

@@ -16,14 +16,14 @@ returns-then-old-eq0 c =
 
 pub later-requires : goal.later-requires
 later-requires c =
-    (behind_as c.args.self.now c.args.pairs.now c.in_ok-extended.extended c.as_slice-2.result.now c.len-old.result c.in_ok-extended.refused
+    (behind_as c.args.self.now c.args.pairs.now c.in_ok-extended.extended c.as_slice-4.result.now c.len-old.result c.in_ok-extended.refused
     c.len-old.ensures
-    (c.as_slice-2.ensures.value ∙ c.in_ok-all.ensures ∙ ap (λ (l : List Pair). l ++ c.args.pairs.now) (c.as_slice.ensures.value ∙ c.self.view_is))
+    (c.as_slice-4.ensures.value ∙ c.in_ok-all.ensures ∙ ap (λ (l : List Pair). l ++ c.args.pairs.now) (c.as_slice-3.ensures.value ∙ c.self.view_is))
     c.requires.distinct c.requires.acyclic c.requires.few c.in_ok-extended.ensures).0
 
 pub returns : goal.returns
 returns c =
-    rw c.later.ensures (behind_as c.args.self.now c.args.pairs.now c.in_ok-extended.extended c.as_slice-2.result.now c.len-old.result c.in_ok-extended.refused
+    rw c.later.ensures (behind_as c.args.self.now c.args.pairs.now c.in_ok-extended.extended c.as_slice-4.result.now c.len-old.result c.in_ok-extended.refused
     c.len-old.ensures
-    (c.as_slice-2.ensures.value ∙ c.in_ok-all.ensures ∙ ap (λ (l : List Pair). l ++ c.args.pairs.now) (c.as_slice.ensures.value ∙ c.self.view_is))
+    (c.as_slice-4.ensures.value ∙ c.in_ok-all.ensures ∙ ap (λ (l : List Pair). l ++ c.args.pairs.now) (c.as_slice-3.ensures.value ∙ c.self.view_is))
     c.requires.distinct c.requires.acyclic c.requires.few c.in_ok-extended.ensures).1

@@ -10,14 +10,14 @@ pub slice_bounds-copy_behind-end : goal.slice_bounds-copy_behind-end
 slice_bounds-copy_behind-end c =
     let all =
     loaded_as c.number_all.new.items.keys c.in_ok-order.order c.in_ok-links.links.items c.args.pairs.now c.in_ok-links.ensures c.in_ok-order.refused
-    c.kept_len-kept.result c.as_slice.result.now c.as_slice-2.result.now c.kept_len-kept.ensures c.as_slice.ensures.keys c.as_slice-2.ensures.value c.in_ok-order.ensures in
+    c.kept_len-kept.result c.as_slice-2.result.now c.as_slice-3.result.now c.kept_len-kept.ensures c.as_slice-2.ensures.keys c.as_slice-3.ensures.value c.in_ok-order.ensures in
     sym (length-take-le c.kept_len-kept.result c.args.pairs.now all.within)
 
 pub invariant_of-result : goal.invariant_of-result
 invariant_of-result c =
     let all =
     loaded_as c.number_all.new.items.keys c.in_ok-order.order c.in_ok-links.links.items c.args.pairs.now c.in_ok-links.ensures c.in_ok-order.refused
-    c.kept_len-kept.result c.as_slice.result.now c.as_slice-2.result.now c.kept_len-kept.ensures c.as_slice.ensures.keys c.as_slice-2.ensures.value c.in_ok-order.ensures in
+    c.kept_len-kept.result c.as_slice-2.result.now c.as_slice-3.result.now c.kept_len-kept.ensures c.as_slice-2.ensures.keys c.as_slice-3.ensures.value c.in_ok-order.ensures in
     subst (λ (ps : List Pair). IsNumbered c.number_all.new.items.keys c.in_ok-order.order ps)
     (sym (c.in_ok-copy_behind.ensures ∙ ap (λ (ps : List Pair). ps ++ take c.kept_len-kept.result c.args.pairs.now) c.in_ok-front.ensures.items)) all.numbered
 
@@ -25,6 +25,6 @@ pub returns : goal.returns
 returns c =
     let all =
     loaded_as c.number_all.new.items.keys c.in_ok-order.order c.in_ok-links.links.items c.args.pairs.now c.in_ok-links.ensures c.in_ok-order.refused
-    c.kept_len-kept.result c.as_slice.result.now c.as_slice-2.result.now c.kept_len-kept.ensures c.as_slice.ensures.keys c.as_slice-2.ensures.value c.in_ok-order.ensures in
+    c.kept_len-kept.result c.as_slice-2.result.now c.as_slice-3.result.now c.kept_len-kept.ensures c.as_slice-2.ensures.keys c.as_slice-3.ensures.value c.in_ok-order.ensures in
     subst (λ (ps : List Pair). AddsAll [] ps c.args.pairs.now c.in_ok-order.refused)
     (sym (c.in_ok-copy_behind.ensures ∙ ap (λ (ps : List Pair). ps ++ take c.kept_len-kept.result c.args.pairs.now) c.in_ok-front.ensures.items)) all.adds

@@ -1,16 +1,34 @@
-use Rattle.std.proofs.Common.{List, refl, subst}
+use Rattle.std.proofs.Common.{ℕ, List, length, refl, sym, subst, arith}
 use Rattle.std.specs.Prelude.{All}
 use Rattle.std.proofs.lemmas.List.{take_all}
 use Rattle.std.proofs.lemmas.List.Elements.{All-more}
+use Rattle.std.proofs.lemmas.Option.{slice_get_read}
 use Rattle.dl_theory.specs.declared.rule.Pair.{Pair}
-use Rattle.dl_theory.specs.Edits.{HasBoth}
+use Rattle.dl_theory.specs.Edits.{HasBoth, MissesAt}
 use Rattle.dl_theory.proofs.theory.Theory.labelled_front.Goals as goal
 
-pub loop-at-preserved : goal.loop-at-preserved
-loop-at-preserved c =
-    All-more (HasBoth c.args.self.now) c.args.pairs.now c.loop-at.at c.index-pairs-at.result c.loop-at-test.true c.loop-at.invariant
-    (subst (λ (p : Pair). HasBoth c.args.self.now p) c.index-pairs-at.is (rw c.in_default.is at c.in_ok-refusal.ensures))
+pub returns-in-None : goal.returns-in-None
+returns-in-None c =
+    subst (λ (at : ℕ). MissesAt c.args.self.now c.args.pairs.now at c.in_ok-missing_label-in-None.field-0) (sym c.loop-pair.invariant.as_many)
+    (record {
+      pair = c.pair-item.result;
+      stands =
+          slice_get_read c.args.pairs.now (length c.args.pairs.now) c.loop-pair.pair-index c.pair-item.result refl c.loop-pair-test.true
+          c.pair-item.is;
+      front = c.loop-pair.invariant.labelled;
+      missing = c.in_ok-missing_label-in-None.ensures;
+    })
+
+pub loop-pair-preserved : goal.loop-pair-preserved
+loop-pair-preserved c = record {
+  labelled =
+      All-more (HasBoth c.args.self.now) c.args.pairs.now c.loop-pair.pair-index c.pair-item.result c.loop-pair-test.true c.loop-pair.invariant.labelled
+      (subst (λ (p : Pair). HasBoth c.args.self.now p) c.pair-item.is c.in-Some.ensures);
+  as_many = omega (arith, c.in_ok-push-in-Some.ensures.len, c.loop-pair.invariant.as_many);
+}
 
 pub returns : goal.returns
-returns c =
-    (subst (λ (ps : List Pair). All (HasBoth c.args.self.now) ps) (take_all c.loop-at.at c.args.pairs.now c.loop-at-test.false) c.loop-at.invariant, refl)
+returns c = (
+  subst (λ (ps : List Pair). All (HasBoth c.args.self.now) ps) (take_all c.loop-pair.pair-index c.args.pairs.now c.loop-pair-test.false) c.loop-pair.invariant.labelled,
+  omega (arith, c.loop-pair.invariant.as_many, c.loop-pair-test.false),
+)
