@@ -1,10 +1,10 @@
 //! The indexes of a whole theory, in one pass over its rules and one over its pairs.
 
-ghost use Rattle.std.specs.Prelude.{◌≡◌, ◌<◌, ◌^◌, ◌+◌, ◌==◌, ◌∷◌, ◌++◌, ℕ, List, [], Some, IfOk, OnOk, All, Contains, length, map, get_or};
+ghost use Rattle.std.specs.Prelude.{◌≡◌, ◌<◌, ◌^◌, ◌+◌, ◌==◌, ◌∷◌, ◌++◌, ℕ, List, [], Some, IfOk, OnOk, All, Contains, length, map, get_or, slice_get};
 ghost use Rattle.dl_base.specs.Paths.{IsDistinct};
 ghost use Rattle.dl_theory.specs.declared.rule.Rule.{Rule};
 ghost use Rattle.dl_theory.specs.Lists.{labels};
-ghost use Rattle.dl_theory.specs.Edits.{HasBoth};
+ghost use Rattle.dl_theory.specs.declared.rule.Pair.{Pair};
 ghost use Rattle.dl_theory.specs.Tests as test;
 ghost use Rattle.dl_net.specs.Above.{flip, lower_step, upper_step};
 ghost use Rattle.dl_net.specs.Named.{IsPaired, IsNear, Grows, HasLiterals, line_in};
@@ -18,7 +18,7 @@ use crate::names::PairedNames;
 use crate::number::number_rule;
 use crate::region::Region;
 use dl_base::Memory;
-use dl_theory::{Pair, Rule, Theory};
+use dl_theory::{Rule, Theory};
 use std::alloc::Global;
 
 /// The number of the complement: literals stand beside their complements.
@@ -171,42 +171,39 @@ pub(crate) fn load_pairs(
     ensures lowers { OnOk result (index.new.lowers ≡ map (λ t. flat_map (λ p. lower_step theory.now p t) theory.now.pairs) theory.now.rules) }
     ensures uppers { OnOk result (index.new.uppers ≡ map (λ u. flat_map (λ p. upper_step theory.now p u) theory.now.pairs) theory.now.rules) }
 {
-    let _count = theory.pairs_len();
-    for pair in theory.pairs() {
-        load_pair(index, names, theory, pair)?;
+    for at in 0..theory.pairs_len() {
+        load_pair(index, names, theory, at)?;
     }
     Ok(())
 }
 
+/// The rules of the pair at a place, below and above each other.
 fn load_pair(
     index: &mut Index,
     names: &PairedNames,
     theory: &Theory,
-    pair: &Pair,
+    at: usize,
 ) -> Result<(), Memory>
     requires distinct { IsDistinct names.now.literals }
     requires paired { IsPaired names.now.literals }
     requires named { All (HasLiterals names.now.literals) theory.now.rules }
     requires lines { index.old.lines ≡ map (line_in names.now.literals) theory.now.rules }
-    requires labels { HasBoth theory.now pair.now }
+    requires within { at < length theory.now.pairs }
     ensures lines { OnOk result (index.new.lines ≡ index.old.lines) }
     ensures numbers { OnOk result (index.new.numbers ≡ index.old.numbers) }
-    ensures lowers { OnOk result ((F : Rule → List ℕ) → index.old.lowers ≡ map F theory.now.rules → index.new.lowers ≡ map (λ t. F t ++ lower_step theory.now pair.now t) theory.now.rules) }
-    ensures uppers { OnOk result ((F : Rule → List ℕ) → index.old.uppers ≡ map F theory.now.rules → index.new.uppers ≡ map (λ u. F u ++ upper_step theory.now pair.now u) theory.now.rules) }
+    ensures lowers { OnOk result ((p : Pair) → slice_get theory.now.pairs at ≡ Some p → (F : Rule → List ℕ) → index.old.lowers ≡ map F theory.now.rules → index.new.lowers ≡ map (λ t. F t ++ lower_step theory.now p t) theory.now.rules) }
+    ensures uppers { OnOk result ((p : Pair) → slice_get theory.now.pairs at ≡ Some p → (F : Rule → List ℕ) → index.old.uppers ≡ map F theory.now.rules → index.new.uppers ≡ map (λ u. F u ++ upper_step theory.now p u) theory.now.rules) }
 {
-    match theory.rule_place(&pair.upper) {
+    match theory.pair_rules(at) {
         None => unreachable!(),
-        Some(upper) => match theory.rule_place(&pair.lower) {
-            None => unreachable!(),
-            Some(lower) => {
-                if !meet(index, names, upper, lower) {
-                    return Ok(());
-                }
-                index.reserve_link(upper, lower)?;
-                index.put_link();
-                Ok(())
+        Some((upper, lower)) => {
+            if !meet(index, names, upper, lower) {
+                return Ok(());
             }
-        },
+            index.reserve_link(upper, lower)?;
+            index.put_link();
+            Ok(())
+        }
     }
 }
 

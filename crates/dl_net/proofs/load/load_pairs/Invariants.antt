@@ -3,10 +3,10 @@ use Rattle.std.specs.Prelude.{flat_map}
 use Rattle.dl_net.specs.Above.{lower_step, upper_step}
 use Rattle.dl_net.proofs.load.load_pairs.Given as goal
 
-abbrev pub invariant-loop-pair : goal.invariant-loop-pair
-invariant-loop-pair l = record {
+abbrev pub invariant-loop-at : goal.invariant-loop-at
+invariant-loop-at l = record {
   lines : l.index.lines ≡ l.fn.index.lines;
   numbers : l.index.numbers ≡ l.fn.index.numbers;
-  lowers : l.index.lowers ≡ map (λ t. flat_map (λ p. lower_step l.theory p t) (take l.pair-index l.theory.pairs)) l.theory.rules;
-  uppers : l.index.uppers ≡ map (λ u. flat_map (λ p. upper_step l.theory p u) (take l.pair-index l.theory.pairs)) l.theory.rules;
+  lowers : l.index.lowers ≡ map (λ t. flat_map (λ p. lower_step l.theory p t) (take l.at l.theory.pairs)) l.theory.rules;
+  uppers : l.index.uppers ≡ map (λ u. flat_map (λ p. upper_step l.theory p u) (take l.at l.theory.pairs)) l.theory.rules;
 }
