@@ -101,6 +101,20 @@ impl Heads {
         ensures same { (q : ℕ) → head_of self.new q ≡ head_of self.old q }
         ensures wide { OnOk result (length self.new.near ≡ len) }
     {
+        // Nearly always the table is empty, and then it is not asked for each item.
+        if self.far.is_empty() {
+            self.near.resize(len, 0usize)?;
+            return Ok(());
+        }
+        self.take_in(len)
+    }
+
+    /// Looks up the number of each item below a length that is not in the plain list, and adds it there.
+    fn take_in(&mut self, len: usize) -> Result<(), Memory>
+        requires { length self.old.near ≤ len }
+        ensures same { (q : ℕ) → head_of self.new q ≡ head_of self.old q }
+        ensures wide { OnOk result (length self.new.near ≡ len) }
+    {
         for at in self.near.len()..len {
             let head = self.far.get(&at).copied().unwrap_or(0);
             self.near.push(head)?;

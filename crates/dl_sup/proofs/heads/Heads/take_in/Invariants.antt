@@ -1,6 +1,6 @@
 use Rattle.std.proofs.Common.{◌≡◌, ℕ, length}
 use Rattle.dl_sup.specs.HeadLists.{head_of}
-use Rattle.dl_sup.proofs.heads.Heads.widen.Given as goal
+use Rattle.dl_sup.proofs.heads.Heads.take_in.Given as goal
 
 abbrev pub invariant-loop-at : goal.invariant-loop-at
 invariant-loop-at l = record {
