@@ -128,6 +128,24 @@ fn files_load_or_are_refused(rt: HostRuntime) {
 }
 
 #[test]
+fn bodies_are_read_whole(rt: HostRuntime) {
+    let rows: [(&[u8], &[u8]); 5] = [
+        (b"r: a, b, c => g", b"r: a, b, c => g\n"),
+        (b"r: a, b, c, d -> g", b"r: a, b, c, d -> g\n"),
+        (
+            b"r:a,b,c,[O]-d,e,f=>[P]g",
+            b"r: a, b, c, [O]-d, e, f => [P]g\n",
+        ),
+        (b"r: a, b, c, d, e ~> g # h, i", b"r: a, b, c, d, e ~> g\n"),
+        (b"r: a, b, c, , d => g", b"1 form"),
+    ];
+    for (file, shown) in rows {
+        let sink = shown_file(rt.alloc(), file);
+        assert!(rt; sink.bytes() == shown);
+    }
+}
+
+#[test]
 fn requests_make_edits(rt: HostRuntime) {
     let rows: [(&[u8], &[u8]); 18] = [
         (b"add r: => p", b"add r: => p"),
