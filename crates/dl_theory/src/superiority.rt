@@ -305,7 +305,7 @@ fn number(items: &mut NameSet<Name>, label: &Name) -> Result<usize, Memory>
 /// The same. The number that the label of the rule at a place had last is tried first.
 fn number_near(
     items: &mut NameSet<Name>,
-    known: &mut Vec<usize>,
+    known: &mut Vec<u32>,
     label: &Name,
     place: u32,
 ) -> Result<usize, Memory>
@@ -315,7 +315,7 @@ fn number_near(
     ensures within { IfOk result (λ n. n < length items.new.keys) }
     ensures names { IfOk result (λ n. label_at items.new.keys n ≡ label.now) }
 {
-    let hint = known.get(place as usize).copied().unwrap_or(0);
+    let hint = known.get(place as usize).copied().unwrap_or(0) as usize;
     if stands_at(items, label, hint) {
         return Ok(hint);
     }
@@ -325,12 +325,12 @@ fn number_near(
 }
 
 /// Notes the number that the label of the rule at a place has.
-fn note(known: &mut Vec<usize>, place: u32, number: usize) -> Result<(), Memory> {
+fn note(known: &mut Vec<u32>, place: u32, number: usize) -> Result<(), Memory> {
     let place = place as usize;
     if known.len() <= place {
         known.resize(place + 1, 0)?;
     }
-    known[place] = number;
+    known[place] = u32::try_from(number).unwrap_or(0);
     Ok(())
 }
 
@@ -349,7 +349,7 @@ fn number_pair(items: &mut NameSet<Name>, pair: &Pair) -> Result<Link, Memory>
 /// The same. The numbers that its rules' labels had last are tried first.
 fn number_pair_near(
     items: &mut NameSet<Name>,
-    known: &mut Vec<usize>,
+    known: &mut Vec<u32>,
     pair: &Pair,
     hint: PairHint,
 ) -> Result<Link, Memory>

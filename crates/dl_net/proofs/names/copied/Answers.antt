@@ -18,9 +18,9 @@ loop-both-preserved c =
     let old : List Literal = c.loop-both.names.literals in
     let new : ¬ Contains old c.first.result.now =
     λ there.
-      next_pair_new ps i p c.requires c.loop-both-test.true c.both-item.is
-      (subst (λ (q : Literal). Contains (pairs_of (take i ps)) q) c.first.ensures
-      (subst (λ (ls : List Literal). Contains ls c.first.result.now) c.loop-both.invariant there)) in
+    next_pair_new ps i p c.requires c.loop-both-test.true c.both-item.is
+    (subst (λ (q : Literal). Contains (pairs_of (take i ps)) q) c.first.ensures
+    (subst (λ (ls : List Literal). Contains ls c.first.result.now) c.loop-both.invariant there)) in
     c.in_ok-number.ensures.named
     ∙ both_new old c.first.result.now (subst (λ (ls : List Literal). IsPaired ls) (sym c.loop-both.invariant) (pairs_paired (take i ps))) new
     ∙ (λ j. c.loop-both.invariant j ++ c.first.ensures j ∷ complement (c.first.ensures j) ∷ [])
