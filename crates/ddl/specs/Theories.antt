@@ -1,6 +1,7 @@
 -- A file that is to be a theory.
 use Rattle.std.specs.Prelude.{◌≡◌, ℕ, ◌<◌, ◌≤◌, List, ◌++◌, ◌∷◌, [], length, Option, Some, codes, decimal}
 use Rattle.dl_theory.specs.Lists.{TheoryLists}
+use Rattle.dl_net.specs.Numbers.{NetLists}
 use Rattle.dl_read.specs.declared.file.ReadStop.TheVariants as stop
 use Rattle.dl_read.specs.Files.{Loads, IsReadStop}
 use Rattle.dl_print.specs.Text.{refusal_text}
@@ -31,14 +32,21 @@ IsRefusal bytes (refusal.Form line) = (length bytes ≤ limit) × IsLineRefusal 
 IsRefusal bytes (refusal.Variables line) = (length bytes ≤ limit) × IsLineRefusal bytes (refusal.Variables line)
 IsRefusal bytes (refusal.Edit line x) = (length bytes ≤ limit) × IsLineRefusal bytes (refusal.Edit line x)
 
--- what a file gives
-abbrev pub IsLoaded : List ℕ → Loaded → Type 0
-IsLoaded bytes (loaded.Theory T) = IsTheoryFile bytes T
-IsLoaded bytes (loaded.Refused x) = IsRefusal bytes x
+-- what a file gives, where this tells which theory was loaded
+abbrev pub IsLoaded : {T : Type 0} → (T → TheoryLists) → List ℕ → Loaded T → Type 0
+IsLoaded lists bytes (loaded.Theory t) = IsTheoryFile bytes (lists t)
+IsLoaded lists bytes (loaded.Refused x) = IsRefusal bytes x
 
 -- the file holds bytes that give this
-abbrev pub HoldsLoaded : Option (List ℕ) → Loaded → Type 0
-HoldsLoaded held x = (bytes : List ℕ) × (held ≡ Some bytes) × IsLoaded bytes x
+abbrev pub HoldsLoaded : {T : Type 0} → (T → TheoryLists) → Option (List ℕ) → Loaded T → Type 0
+HoldsLoaded lists held x = (bytes : List ℕ) × (held ≡ Some bytes) × IsLoaded lists bytes x
+
+-- the same of a theory that is kept, and of one that is kept by numbers
+abbrev pub HoldsTheory : Option (List ℕ) → Loaded TheoryLists → Type 0
+HoldsTheory = HoldsLoaded (λ T. T)
+
+abbrev pub HoldsNumbered : Option (List ℕ) → Loaded NetLists → Type 0
+HoldsNumbered = HoldsLoaded (λ N. N.theory)
 
 -- `line K `
 abbrev pub line_front : ℕ → List ℕ

@@ -8,8 +8,7 @@ ghost use Rattle.dl_edition.specs.Conclusions.{AreConclusions};
 use dl_edition::Concluded;
 use dl_lit::{Family, Memory};
 use dl_marks::{Marks, Steps};
-use dl_net::Net;
-use dl_theory::Theory;
+use dl_net::{NumberedNet, NumberedTheory};
 use dl_update::family_marks;
 use std::alloc::Global;
 use std::marker::Brand;
@@ -19,7 +18,7 @@ use std::sync::ledger::{Blank, Ledger};
 fn marks_in<L: Ledger>(
     alloc: Global,
     family: Family,
-    net: &Net,
+    net: &NumberedNet,
     blank: Blank,
 ) -> Result<Marks, Memory>
     requires name { blank.name ≡ L.name }
@@ -29,14 +28,18 @@ fn marks_in<L: Ledger>(
     ensures right { IfOk result (λ marks. IsRight net.now marks family) }
 {
     let mut steps = Steps::<L>::make(blank);
-    family_marks(alloc, net, family, &mut steps)
+    family_marks(alloc, &net.graph(), family, &mut steps)
 }
 
 /// The conclusions of a theory in a family. `Memory` where there is none for its net, its marks or the order of its literals.
-pub fn conclusions(alloc: Global, family: Family, theory: Theory) -> Result<Concluded, Memory>
-    ensures { IfOk result (AreConclusions theory family) }
+pub fn conclusions(
+    alloc: Global,
+    family: Family,
+    theory: NumberedTheory,
+) -> Result<Concluded, Memory>
+    ensures { IfOk result (AreConclusions theory.theory family) }
 {
-    let net = Net::of(alloc, theory)?;
+    let net = NumberedNet::of(theory)?;
     let marks = marks_in::<Brand>(alloc, family, &net, Blank::new(1))?;
     Concluded::make(alloc, net, marks, family)
 }

@@ -7,7 +7,7 @@ ghost use Rattle.dl_io.specs.Streams.{WritesAll};
 ghost use Rattle.ddl.specs.Replies.{reply_status, reply_text};
 ghost use Rattle.ddl.specs.Run.{Runs, Answers, ReadsOnly, IsReply, MayEnd, Shows, outcome_of, files_for, files_of};
 ghost use Rattle.ddl.specs.Certified.{SaysOfCertificate};
-ghost use Rattle.ddl.specs.Theories.{limit, HoldsLoaded};
+ghost use Rattle.ddl.specs.Theories.{limit, HoldsTheory, HoldsNumbered};
 ghost use Rattle.ddl.specs.Whole.{IsWhole, HasFault};
 ghost use Rattle.ddl.specs.Words.{form, form_of, Conclude, Print, Check};
 
@@ -22,6 +22,7 @@ use crate::whole::Stop;
 use crate::words::{Command, command_of};
 use dl_io::{Failed, House, OpenStop, Sink};
 use dl_lit::{Family, Memory};
+use dl_net::NumberedTheory;
 use dl_theory::Theory;
 use std::alloc::Global;
 use std::mem;
@@ -29,8 +30,8 @@ use std::sync::Wait;
 use std::thread::Threads;
 
 // The conclusions, in a family, of what a file gives.
-fn conclude(alloc: Global, family: Family, loaded: Loaded) -> Result<Reply, Memory>
-    ensures shown { (holds : List ℕ → Option (List ℕ)) (file : List ℕ) → HoldsLoaded (holds file) loaded
+fn conclude(alloc: Global, family: Family, loaded: Loaded<NumberedTheory>) -> Result<Reply, Memory>
+    ensures shown { (holds : List ℕ → Option (List ℕ)) (file : List ℕ) → HoldsNumbered (holds file) loaded
         → IfOk result (λ reply. Shows holds (Some (Conclude family file)) (outcome_of reply)) }
     ensures ends { IfOk result (λ reply. (reply_status reply ≡ Status.Done) ⊎ (reply_status reply ≡ Status.Refused)) }
 {
@@ -44,8 +45,8 @@ fn conclude(alloc: Global, family: Family, loaded: Loaded) -> Result<Reply, Memo
 }
 
 // The canonical text of what a file gives.
-fn print_of(loaded: Loaded) -> Reply
-    ensures shown { (holds : List ℕ → Option (List ℕ)) (file : List ℕ) → HoldsLoaded (holds file) loaded
+fn print_of(loaded: Loaded<Theory>) -> Reply
+    ensures shown { (holds : List ℕ → Option (List ℕ)) (file : List ℕ) → HoldsTheory (holds file) loaded
         → Shows holds (Some (Print file)) (outcome_of result) }
     ensures ends { (reply_status result ≡ Status.Done) ⊎ (reply_status result ≡ Status.Refused) }
 {
@@ -102,7 +103,7 @@ fn check_files<H: House>(
     ensures shown { IsTrue H.tells → IfOk result (λ reply.
         Shows (H.state house.old).holds (Some (Check (string_bytes file.now) (string_bytes cert.now))) (outcome_of reply)) }
 {
-    match load(alloc, house, file)? {
+    match load(alloc, house, file, Theory::make(alloc))? {
         Loaded::Refused(refusal) => Ok(Reply::Refused(refusal)),
         Loaded::Theory(theory) => {
             let reply = check_file(alloc, house, &theory, cert)?;
@@ -122,12 +123,12 @@ fn reply_of<H: House>(alloc: Global, command: Command<'_>, house: &mut H) -> Res
 {
     match command {
         Command::Conclude(family, file) => {
-            let loaded = load(alloc, house, file)?;
+            let loaded = load(alloc, house, file, NumberedTheory::make(alloc))?;
             let reply = conclude(alloc, family, loaded)?;
             Ok(reply)
         }
         Command::Print(file) => {
-            let loaded = load(alloc, house, file)?;
+            let loaded = load(alloc, house, file, Theory::make(alloc))?;
             Ok(print_of(loaded))
         }
         Command::Check(file, cert) => {

@@ -1,6 +1,7 @@
 //! A theory from a file.
 
 ghost use Rattle.std.specs.Prelude.{◌≡◌, ◌≤◌, ◌∷◌, ◌++◌, [], List, ℕ, false, length, OnOk, string_bytes, IsTrue, IsSome, IfOk, Some};
+ghost use Rattle.dl_theory.specs.Lists.{no_lists};
 ghost use Rattle.ddl.specs.Theories.{limit, IsLoaded, HoldsLoaded};
 ghost use Rattle.ddl.specs.Run.{ReadsOnly};
 ghost use Rattle.ddl.specs.Whole.{IsWhole, HasFault};
@@ -9,24 +10,25 @@ use crate::refusal::Refusal;
 use crate::whole::{Stop, read_whole};
 use dl_io::{House, OpenStop};
 use dl_lit::Memory;
-use dl_read::read_file;
-use dl_theory::Theory;
+use dl_read::read_into;
+use dl_theory::Loading;
 use std::alloc::Global;
 
 const LIMIT: usize = 67_108_864;
 
 /// What a file gives.
 #[derive(Drop)]
-pub enum Loaded {
-    Theory(Theory),
+pub enum Loaded<T> {
+    Theory(T),
     Refused(Refusal),
 }
 
-// The theory that these bytes say.
-fn load_bytes(alloc: Global, bytes: &[u8]) -> Result<Loaded, Memory>
-    ensures { length bytes.now ≤ limit → IfOk result (IsLoaded bytes.now) }
+// The theory that these bytes say, loaded into what is empty.
+fn load_bytes<T: Loading>(alloc: Global, empty: T, bytes: &[u8]) -> Result<Loaded<T>, Memory>
+    requires { T.lists empty ≡ no_lists }
+    ensures { length bytes.now ≤ limit → IfOk result (IsLoaded T.lists bytes.now) }
 {
-    match read_file(alloc, bytes) {
+    match read_into(alloc, empty, bytes) {
         Ok(theory) => Ok(Loaded::Theory(theory)),
         Err(stop) => {
             let refusal = Refusal::from_stop(stop)?;
@@ -36,12 +38,17 @@ fn load_bytes(alloc: Global, bytes: &[u8]) -> Result<Loaded, Memory>
 }
 
 // What a file that was read gives. `None` are more bytes than the limit.
-fn load_whole(alloc: Global, whole: &Option<Vec<u8>>) -> Result<Loaded, Memory>
-    ensures { (bytes : List ℕ) → IsWhole limit (Some bytes) whole.now → IfOk result (IsLoaded bytes) }
+fn load_whole<T: Loading>(
+    alloc: Global,
+    empty: T,
+    whole: &Option<Vec<u8>>,
+) -> Result<Loaded<T>, Memory>
+    requires { T.lists empty ≡ no_lists }
+    ensures { (bytes : List ℕ) → IsWhole limit (Some bytes) whole.now → IfOk result (IsLoaded T.lists bytes) }
 {
     match whole {
         None => Ok(Loaded::Refused(Refusal::Size)),
-        Some(bytes) => load_bytes(alloc, bytes),
+        Some(bytes) => load_bytes(alloc, empty, bytes),
     }
 }
 
@@ -64,15 +71,21 @@ pub fn read<H: House>(alloc: Global, house: &mut H, name: &String) -> Result<Opt
     whole
 }
 
-/// The theory in a file, or why there is none. The file is settled again.
-pub fn load<H: House>(alloc: Global, house: &mut H, name: &String) -> Result<Loaded, Stop>
-    requires { (H.state house.old).open_in (string_bytes name.now) ≡ false }
+/// The theory in a file, loaded into what is empty, or why there is none. The file is settled again.
+pub fn load<H: House, T: Loading>(
+    alloc: Global,
+    house: &mut H,
+    name: &String,
+    empty: T,
+) -> Result<Loaded<T>, Stop>
+    requires shut { (H.state house.old).open_in (string_bytes name.now) ≡ false }
+    requires empty { T.lists empty ≡ no_lists }
     ensures house { ReadsOnly (H.state house.old) (H.state house.new) (string_bytes name.now ∷ []) }
     ensures cause { HasFault (H.state house.old).faults (H.state house.new).faults result }
-    ensures loaded { IsTrue H.tells → IfOk result (HoldsLoaded ((H.state house.old).holds (string_bytes name.now))) }
+    ensures loaded { IsTrue H.tells → IfOk result (HoldsLoaded T.lists ((H.state house.old).holds (string_bytes name.now))) }
     ensures asked { OnOk result ((H.state house.new).asked_in ≡ (H.state house.old).asked_in ++ string_bytes name.now ∷ []) }
 {
     let whole = read(alloc, house, name)?;
-    let loaded = load_whole(alloc, &whole)?;
+    let loaded = load_whole(alloc, empty, &whole)?;
     Ok(loaded)
 }

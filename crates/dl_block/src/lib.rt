@@ -1,4 +1,4 @@
-//! What follows in the defeasible family, where ambiguity blocks: by counters in a region of a net.
+//! What follows in the defeasible family, where ambiguity blocks: by counters in a region of a graph.
 //!
 //! A literal is concluded where it is definite; or where a rule for it is on, nothing that attacks it is definite, and each rule
 //! against it is off or beaten by a rule for it that is on. `fill_block` sets exactly the marks of the family that follow, at the

@@ -19,7 +19,7 @@ use dl_fill::{
 };
 use dl_lit::{Family, Tag};
 use dl_marks::{Marks, Steps};
-use dl_net::{Link, Net, Region};
+use dl_net::{Graph, Link, Region};
 use std::sync::ledger::Ledger;
 
 /// The gates of the definite family.
@@ -28,7 +28,14 @@ pub struct DefiniteGates;
 impl Gates for DefiniteGates {
     ghost tells = { λ _ N b k i. definite_gate N b k i };
 
-    fn gate(&self, net: &Net, marks: &Marks, region: &Region, kind: usize, place: usize) -> Gate {
+    fn gate(
+        &self,
+        net: &Graph<'_>,
+        marks: &Marks,
+        region: &Region,
+        kind: usize,
+        place: usize,
+    ) -> Gate {
         if kind < 2 {
             if place < net.names() {
                 let fact = net.is_fact(place);
@@ -51,14 +58,14 @@ impl Gates for DefiniteGates {
 /// Whether a rule is strict.
 // A rule that is not leads to no node of this family, so its two nodes never begin to wait: nothing asks whether they fire.
 #[inline(always)]
-fn is_strict(net: &Net, rule: usize) -> bool
+fn is_strict(net: &Graph<'_>, rule: usize) -> bool
     requires { rule < length net.now.theory.rules }
     ensures { result ≡ lists.is_strict (rule_at net.now rule).kind }
 {
     net.next_len(Link::Proves, rule) > 0
 }
 
-fn gate_of_rule(net: &Net, marks: &Marks, region: &Region, kind: usize, rule: usize) -> Gate
+fn gate_of_rule(net: &Graph<'_>, marks: &Marks, region: &Region, kind: usize, rule: usize) -> Gate
     requires bound { region.now.bound ≡ length net.now.names }
     requires room { length net.now.names ≤ places marks.now }
     ensures { result ≡ rule_gate net.now (before_of marks.now region.now) kind rule }
@@ -99,7 +106,7 @@ pub fn tags() -> [Option<Tag>; 2]
 }
 
 /// Runs the counters until exactly what follows in the region has fired.
-fn solve_definite(net: &Net, marks: &Marks, region: &Region, places: usize, parts: &mut Parts)
+fn solve_definite(net: &Graph<'_>, marks: &Marks, region: &Region, places: usize, parts: &mut Parts)
     requires idle { IsIdle 4 places parts.old.counters parts.old.rules }
     requires names { length net.now.names ≤ places }
     requires rules { length net.now.theory.rules ≤ places }
@@ -127,7 +134,7 @@ fn solve_definite(net: &Net, marks: &Marks, region: &Region, places: usize, part
 
 /// A fill with what it counts with, which is left as it was.
 fn fill_with<L: Ledger>(
-    net: &Net,
+    net: &Graph<'_>,
     marks: &mut Marks,
     region: &Region,
     places: usize,
@@ -168,7 +175,7 @@ fn fill_with<L: Ledger>(
 /// Sets exactly the marks of the definite family that follow, in a region outside which they are right. It costs what the region
 /// touches: its literals, the rules for and against them, and their edges.
 pub fn fill_definite<L: Ledger>(
-    net: &Net,
+    net: &Graph<'_>,
     marks: &mut Marks,
     region: &Region,
     work: &mut DefiniteWork,

@@ -1,5 +1,5 @@
 -- The numbers of what matters for a literal have all that lies behind them.
-use Rattle.std.proofs.Common.{◌≡◌, ℕ, ◌<◌, length, get_or, inl, inr, refl, sym, subst}
+use Rattle.std.proofs.Common.{◌≡◌, ℕ, ◌<◌, false, None, length, get_or, inl, inr, refl, sym, subst}
 use Rattle.std.specs.Prelude.{All}
 use Rattle.std.proofs.lemmas.List.Elements.{Contains-get_or}
 use Rattle.dl_base.proofs.Members.{Contains-mapped, mapped_from}
@@ -11,6 +11,12 @@ use Rattle.dl_fill.proofs.Links.{number_finds, number_inside}
 use Rattle.dl_derive.specs.Back.{IsBack}
 use Rattle.dl_derive.specs.Part.{IsOf, HasAllBehind}
 use Rattle.dl_derive.proofs.Resting.{back_named}
+
+-- the same numbers matter in a net and in its graph
+pub is_back_in_graph : (N M : NetLists) → M ≡ record N { pending = None; frozen = false } → (q : ℕ) (r : Numbers) → IsBack N q r → IsBack M q r
+is_back_in_graph N M same q r b =
+    let whole : IsBack (record N { pending = None; frozen = false }) q r = record { bound = b.bound; members = b.members } in
+    subst (λ (K : NetLists). IsBack K q r) (sym same) whole
 
 module _ (N : NetLists) (numbered : IsNumbered N) (q : ℕ) (lt : q < length N.names) (r : Numbers) (b : IsBack N q r) where
   pub members_inside : All (λ n. n < length N.names) r.members

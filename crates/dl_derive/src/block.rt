@@ -23,14 +23,14 @@ use dl_base::Memory;
 use dl_block::{BlockGates, LITERALS, WIDTH, bases, tags, wires};
 use dl_lit::Family;
 use dl_marks::Marks;
-use dl_net::{Net, Region};
+use dl_net::{Graph, Region};
 use dl_theory::TaggedList;
 use std::alloc::Global;
 
 /// The nodes that lead up to that of the literal and the sign.
 fn block_way(
     alloc: Global,
-    net: &Net,
+    net: &Graph<'_>,
     marks: &Marks,
     region: &Region,
     plus: bool,
@@ -77,7 +77,7 @@ fn block_way(
 /// A derivation that ends with the literal and the sign, of what matters.
 pub(crate) fn block_steps(
     alloc: Global,
-    net: &Net,
+    net: &Graph<'_>,
     marks: &Marks,
     region: &Region,
     plus: bool,

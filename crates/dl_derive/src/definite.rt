@@ -25,14 +25,14 @@ use dl_definite::{DefiniteGates, LITERALS, WIDTH, tags, wires};
 use dl_fill::Basis;
 use dl_lit::Family;
 use dl_marks::Marks;
-use dl_net::{Net, Region};
+use dl_net::{Graph, Region};
 use dl_theory::TaggedList;
 use std::alloc::Global;
 
 /// The nodes that lead up to that of the literal and the sign.
 fn definite_way(
     alloc: Global,
-    net: &Net,
+    net: &Graph<'_>,
     marks: &Marks,
     region: &Region,
     plus: bool,
@@ -78,7 +78,7 @@ fn definite_way(
 /// A derivation that ends with the literal and the sign, of what matters.
 pub(crate) fn definite_steps(
     alloc: Global,
-    net: &Net,
+    net: &Graph<'_>,
     marks: &Marks,
     region: &Region,
     plus: bool,
@@ -101,7 +101,7 @@ pub(crate) fn definite_steps(
 /// Nodes of the definite family in order, those that the gates of other nodes read among them.
 pub(crate) fn sure_way(
     alloc: Global,
-    net: &Net,
+    net: &Graph<'_>,
     marks: &Marks,
     region: &Region,
     width: usize,

@@ -22,7 +22,7 @@ use crate::way::lead;
 use dl_base::Memory;
 use dl_lit::Family;
 use dl_marks::Marks;
-use dl_net::{Net, Region};
+use dl_net::{Graph, Region};
 use dl_prop::{LITERALS, PropGates, WIDTH, bases, tags, wires};
 use dl_theory::TaggedList;
 use std::alloc::Global;
@@ -30,7 +30,7 @@ use std::alloc::Global;
 /// The nodes that lead up to that of the literal, the family and the sign.
 fn pair_way(
     alloc: Global,
-    net: &Net,
+    net: &Graph<'_>,
     marks: &Marks,
     region: &Region,
     plus: bool,
@@ -64,7 +64,7 @@ fn pair_way(
 /// A derivation that ends with the literal, the family and the sign, of what matters.
 pub(crate) fn pair_steps(
     alloc: Global,
-    net: &Net,
+    net: &Graph<'_>,
     marks: &Marks,
     region: &Region,
     plus: bool,

@@ -9,11 +9,11 @@ ghost use Rattle.dl_derive.specs.Ways.{IsRun};
 use dl_base::Memory;
 use dl_fill::{Gates, Parts, Wire, make_parts, solve};
 use dl_marks::Marks;
-use dl_net::{Net, Region};
+use dl_net::{Graph, Region};
 use std::alloc::Global;
 
 /// For how many places nodes are made.
-fn places_of(net: &Net) -> usize
+fn places_of(net: &Graph<'_>) -> usize
     ensures names { length net.now.names ≤ result }
     ensures rules { length net.now.theory.rules ≤ result }
 {
@@ -26,7 +26,7 @@ fn places_of(net: &Net) -> usize
 pub(crate) fn run<G: Gates>(
     alloc: Global,
     gates: &G,
-    net: &Net,
+    net: &Graph<'_>,
     marks: &Marks,
     region: &Region,
     width: usize,

@@ -9,7 +9,7 @@ ghost use Rattle.dl_definite.specs.Definite.{definite_tags};
 use dl_base::Memory;
 use dl_fill::is_inside;
 use dl_lit::{Tag, Tagged};
-use dl_net::{Net, Region};
+use dl_net::{Graph, Region};
 use dl_theory::TaggedList;
 use std::alloc::Global;
 
@@ -24,7 +24,7 @@ fn tag_of_kind(tags: &[Option<Tag>], kind: usize) -> Option<Tag>
 }
 
 /// Whether the place is that of a literal in the region.
-pub(crate) fn is_here(net: &Net, region: &Region, place: usize) -> bool
+pub(crate) fn is_here(net: &Graph<'_>, region: &Region, place: usize) -> bool
     requires { region.now.bound ≡ length net.now.names }
     ensures here { result ≡ before.is_inside region.now.members place }
     ensures named { IsTrue result → place < length net.now.names }
@@ -38,7 +38,12 @@ pub(crate) fn is_here(net: &Net, region: &Region, place: usize) -> bool
 }
 
 /// Adds a literal with a tag.
-fn push_tag(list: &mut TaggedList, net: &Net, tag: Option<Tag>, number: usize) -> Result<(), Memory>
+fn push_tag(
+    list: &mut TaggedList,
+    net: &Graph<'_>,
+    tag: Option<Tag>,
+    number: usize,
+) -> Result<(), Memory>
     requires { number < length net.now.names }
     ensures { OnOk result (list.new ≡ list.old ++ with_tag tag (literal_at net.now number)) }
 {
@@ -56,7 +61,7 @@ fn push_tag(list: &mut TaggedList, net: &Net, tag: Option<Tag>, number: usize) -
 /// Adds what a node is read as.
 fn push_step(
     list: &mut TaggedList,
-    net: &Net,
+    net: &Graph<'_>,
     region: &Region,
     width: usize,
     tags: &[Option<Tag>],
@@ -77,7 +82,7 @@ fn push_step(
 /// Adds what nodes are read as.
 pub(crate) fn push_steps(
     list: &mut TaggedList,
-    net: &Net,
+    net: &Graph<'_>,
     region: &Region,
     width: usize,
     tags: &[Option<Tag>],
@@ -96,7 +101,7 @@ pub(crate) fn push_steps(
 /// What nodes of the definite family are read as, and behind it what others are read as. `Memory` where there is none for the list.
 pub(crate) fn behind_sure(
     alloc: Global,
-    net: &Net,
+    net: &Graph<'_>,
     region: &Region,
     sure: &[usize],
     width: usize,

@@ -13,7 +13,7 @@ use dl_definite::WIDTH;
 use dl_fill::{Basis, attack_holds};
 use dl_lit::{Family, Tag};
 use dl_marks::Marks;
-use dl_net::{Net, Region};
+use dl_net::{Graph, Region};
 use std::alloc::Global;
 
 fn want(wanted: &mut Vec<bool>, node: usize)
@@ -25,7 +25,7 @@ fn want(wanted: &mut Vec<bool>, node: usize)
 }
 
 /// The nodes of a kind of all that attack a literal.
-fn want_attackers(net: &Net, number: usize, kind: usize, wanted: &mut Vec<bool>)
+fn want_attackers(net: &Graph<'_>, number: usize, kind: usize, wanted: &mut Vec<bool>)
     requires number { number < length net.now.names }
     requires kind { kind < 4 }
     requires size { length net.now.names * 4 ≤ length wanted.old.items }
@@ -42,7 +42,7 @@ fn want_attackers(net: &Net, number: usize, kind: usize, wanted: &mut Vec<bool>)
 }
 
 /// What the gate of a concluded literal reads: that it is definite, or that no attack on it is.
-fn want_plus(net: &Net, marks: &Marks, number: usize, wanted: &mut Vec<bool>)
+fn want_plus(net: &Graph<'_>, marks: &Marks, number: usize, wanted: &mut Vec<bool>)
     requires number { number < length net.now.names }
     requires room { length net.now.names ≤ places marks.now }
     requires size { length net.now.names * 4 ≤ length wanted.old.items }
@@ -62,7 +62,7 @@ fn want_plus(net: &Net, marks: &Marks, number: usize, wanted: &mut Vec<bool>)
 }
 
 /// What the gate of a refuted literal reads: that it is not definite, and that an attack on it is.
-fn want_minus(net: &Net, marks: &Marks, number: usize, wanted: &mut Vec<bool>)
+fn want_minus(net: &Graph<'_>, marks: &Marks, number: usize, wanted: &mut Vec<bool>)
     requires number { number < length net.now.names }
     requires room { length net.now.names ≤ places marks.now }
     requires size { length net.now.names * 4 ≤ length wanted.old.items }
@@ -78,7 +78,7 @@ fn want_minus(net: &Net, marks: &Marks, number: usize, wanted: &mut Vec<bool>)
 }
 
 /// What a gate reads at a literal.
-fn want_basis(net: &Net, marks: &Marks, basis: Basis, number: usize, wanted: &mut Vec<bool>)
+fn want_basis(net: &Graph<'_>, marks: &Marks, basis: Basis, number: usize, wanted: &mut Vec<bool>)
     requires number { number < length net.now.names }
     requires room { length net.now.names ≤ places marks.now }
     requires size { length net.now.names * 4 ≤ length wanted.old.items }
@@ -107,7 +107,7 @@ fn basis_of_kind(bases: &[Basis], kind: usize) -> Basis
 
 /// What the gate of a node reads.
 fn want_read(
-    net: &Net,
+    net: &Graph<'_>,
     marks: &Marks,
     region: &Region,
     width: usize,
@@ -132,7 +132,7 @@ fn want_read(
 /// What the gates of nodes read.
 pub(crate) fn read_by(
     alloc: Global,
-    net: &Net,
+    net: &Graph<'_>,
     marks: &Marks,
     region: &Region,
     width: usize,

@@ -12,7 +12,7 @@ ghost use Rattle.dl_derive.specs.Ways.{IsRun, IsWay, IsFrontTo};
 use dl_base::Memory;
 use dl_fill::{Counters, Gates, Parts, Wire, prune};
 use dl_marks::Marks;
-use dl_net::{Net, Region};
+use dl_net::{Graph, Region};
 use std::alloc::Global;
 
 /// One node is wanted.
@@ -54,7 +54,7 @@ fn front(alloc: Global, counters: &Counters, node: usize) -> Result<Vec<usize>, 
 pub(crate) fn lead<G: Gates>(
     alloc: Global,
     gates: &G,
-    net: &Net,
+    net: &Graph<'_>,
     marks: &Marks,
     region: &Region,
     width: usize,
@@ -84,7 +84,7 @@ pub(crate) fn lead<G: Gates>(
 pub(crate) fn rest<G: Gates>(
     alloc: Global,
     gates: &G,
-    net: &Net,
+    net: &Graph<'_>,
     marks: &Marks,
     region: &Region,
     width: usize,

@@ -20,14 +20,14 @@ use crate::unnumbered::unnumbered_answer;
 use dl_base::Memory;
 use dl_lit::{Family, Literal, Tag};
 use dl_marks::Marks;
-use dl_net::{Net, Region};
+use dl_net::{Graph, Net, Region};
 use dl_theory::{Answer, Certificate, TaggedList, Verdict};
 use std::alloc::Global;
 
-/// A derivation that ends with the literal, the family and the sign, of what matters.
-fn steps_to(
+/// A derivation that ends with the literal, the family and the sign, of what matters in a graph.
+fn graph_steps(
     alloc: Global,
-    net: &Net,
+    net: &Graph<'_>,
     marks: &Marks,
     region: &Region,
     plus: bool,
@@ -47,6 +47,26 @@ fn steps_to(
         Family::Propagating => pair_steps(alloc, net, marks, region, plus, family, number),
         Family::Support => pair_steps(alloc, net, marks, region, plus, family, number),
     }
+}
+
+/// A derivation that ends with the literal, the family and the sign, of what matters in a net.
+fn steps_to(
+    alloc: Global,
+    net: &Net,
+    marks: &Marks,
+    region: &Region,
+    plus: bool,
+    family: Family,
+    number: usize,
+) -> Result<TaggedList, Memory>
+    requires number { number < length net.now.names }
+    requires back { IsBack net.now number region.now }
+    requires room { length net.now.names ≤ places marks.now }
+    requires right { (f : Family) → Contains (needs family) f → IsRight net.now marks.now f }
+    requires follows { Follows net.now.theory (tagged plus family (literal_at net.now number)) }
+    ensures { IfOk result (DerivesAt net.now.theory family (literal_at net.now number) (tagged plus family (literal_at net.now number))) }
+{
+    graph_steps(alloc, &net.graph(), marks, region, plus, family, number)
 }
 
 /// The answer on a literal that has a number.

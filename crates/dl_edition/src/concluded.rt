@@ -10,7 +10,7 @@ use crate::verdict::marked_verdict;
 use dl_base::Memory;
 use dl_lit::{Family, Literal};
 use dl_marks::Marks;
-use dl_net::Net;
+use dl_net::NumberedNet;
 use dl_theory::Verdict;
 use std::alloc::Global;
 use std::marker::Model;
@@ -18,7 +18,7 @@ use std::marker::Model;
 /// A theory that is concluded in a family: its conclusions stand in order, and each is read off marks when it is asked for.
 #[derive(Drop)]
 pub struct Concluded {
-    net: Net,
+    net: NumberedNet,
     marks: Marks,
     family: Family,
     /// The numbers of the literals that the theory mentions, in the order of the literals.
@@ -40,12 +40,17 @@ impl Model for Concluded {
 impl Concluded {
     /// The conclusions of a net's theory in a family in which the marks are right. `Memory` where there is none for the order of
     /// the literals.
-    pub fn make(alloc: Global, net: Net, marks: Marks, family: Family) -> Result<Concluded, Memory>
+    pub fn make(
+        alloc: Global,
+        net: NumberedNet,
+        marks: Marks,
+        family: Family,
+    ) -> Result<Concluded, Memory>
         requires room { length net.names ≤ places marks }
         requires right { IsRight net marks family }
         ensures { IfOk result (AreConclusions net.theory family) }
     {
-        let order = order_of(alloc, &net)?;
+        let order = order_of(alloc, &net.graph())?;
         Ok(Concluded {
             net,
             marks,
@@ -68,6 +73,6 @@ impl Concluded {
     {
         let number = self.order[at];
         let verdict = marked_verdict(&self.marks, self.family, number);
-        (self.net.literal(number), verdict)
+        (self.net.graph().literal(number), verdict)
     }
 }

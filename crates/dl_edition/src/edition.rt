@@ -54,7 +54,7 @@ impl Edition {
         requires unowned { IsFrozen marks }
         ensures { IfOk result (λ edition. edition ≡ net.theory) }
     {
-        let order = order_of(alloc, &net)?;
+        let order = order_of(alloc, &net.graph())?;
         Ok(Edition { net, marks, order })
     }
 

@@ -7,12 +7,12 @@ ghost use Rattle.dl_edition.specs.Placing.{ArePlaced, pair_numbers};
 
 use crate::placed::{Placed, prefix_of};
 use dl_base::Memory;
-use dl_net::Net;
+use dl_net::Graph;
 use std::alloc::Global;
 
 /// The positive literals that the theory mentions, in the order of their numbers. Of a literal and its complement exactly one is
 /// positive, so each pair is listed once. The list borrows each literal, and copies none.
-fn placed(alloc: Global, net: &Net) -> Result<Vec<Placed<'_>>, Memory>
+fn placed<'a>(alloc: Global, net: &Graph<'a>) -> Result<Vec<Placed<'a>>, Memory>
     ensures { IfOk result (λ list. ArePlaced net.now (length net.now.names) list.items) }
 {
     let mut list = Vec::with_capacity(alloc, net.names() / 2)?;
@@ -31,7 +31,7 @@ fn placed(alloc: Global, net: &Net) -> Result<Vec<Placed<'_>>, Memory>
 }
 
 /// The number of each of these literals, and after it that of its complement, which comes next in the order of literals.
-fn numbers_of(alloc: Global, net: &Net, list: &[Placed<'_>]) -> Result<Vec<usize>, Memory>
+fn numbers_of(alloc: Global, net: &Graph<'_>, list: &[Placed<'_>]) -> Result<Vec<usize>, Memory>
     requires { All (λ p. p.number < length net.now.names) list.now }
     ensures { IfOk result (λ numbers. numbers.items ≡ flat_map (pair_numbers net.now) list.now) }
 {
@@ -44,7 +44,7 @@ fn numbers_of(alloc: Global, net: &Net, list: &[Placed<'_>]) -> Result<Vec<usize
 
 /// The numbers of the literals that the theory mentions, in the order of the literals. `Memory` where there is none for
 /// them.
-pub(crate) fn order_of(alloc: Global, net: &Net) -> Result<Vec<usize>, Memory>
+pub(crate) fn order_of(alloc: Global, net: &Graph<'_>) -> Result<Vec<usize>, Memory>
     ensures { IfOk result (λ order. IsOrder net.now order.items) }
 {
     let mut list = placed(alloc, net)?;

@@ -9,7 +9,7 @@ ghost use Rattle.dl_fill.specs.Before.{before_of, on_gate, off_gate, plus_gate, 
 use crate::wire::Gate;
 use dl_lit::{Family, Tag};
 use dl_marks::Marks;
-use dl_net::{Link, Net, Region};
+use dl_net::{Graph, Link, Region};
 
 /// Whether the number is in the region.
 pub fn is_inside(region: &Region, number: usize) -> bool
@@ -20,7 +20,7 @@ pub fn is_inside(region: &Region, number: usize) -> bool
 }
 
 /// Whether all numbers are in the region.
-pub fn is_everywhere(net: &Net, region: &Region) -> bool
+pub fn is_everywhere(net: &Graph<'_>, region: &Region) -> bool
     requires { region.now.bound ≡ length net.now.names }
     ensures { IsTrue result → (q : ℕ) → q < length net.now.names → before.is_inside region.now.members q ≡ true }
 {
@@ -28,7 +28,7 @@ pub fn is_everywhere(net: &Net, region: &Region) -> bool
 }
 
 /// Whether each literal that attacks it is refuted in the definite family.
-pub fn attack_fails(net: &Net, marks: &Marks, number: usize) -> bool
+pub fn attack_fails(net: &Graph<'_>, marks: &Marks, number: usize) -> bool
     requires number { number < length net.now.names }
     requires room { length net.now.names ≤ places marks.now }
     ensures { result ≡ before.attack_fails net.now (marked marks.now) number }
@@ -49,7 +49,7 @@ pub fn attack_fails(net: &Net, marks: &Marks, number: usize) -> bool
 }
 
 /// Whether some literal that attacks it is concluded in the definite family.
-pub fn attack_holds(net: &Net, marks: &Marks, number: usize) -> bool
+pub fn attack_holds(net: &Graph<'_>, marks: &Marks, number: usize) -> bool
     requires number { number < length net.now.names }
     requires room { length net.now.names ≤ places marks.now }
     ensures { result ≡ before.attack_holds net.now (marked marks.now) number }
@@ -88,7 +88,13 @@ fn stands_off(marks: &Marks, region: &Region, tag: Tag, literal: usize) -> bool
 }
 
 /// Whether each literal of the rule's body that stands outside the region is concluded.
-pub fn outside_is_on(net: &Net, marks: &Marks, region: &Region, family: Family, rule: usize) -> bool
+pub fn outside_is_on(
+    net: &Graph<'_>,
+    marks: &Marks,
+    region: &Region,
+    family: Family,
+    rule: usize,
+) -> bool
     requires bound { region.now.bound ≡ length net.now.names }
     requires room { length net.now.names ≤ places marks.now }
     ensures { result ≡ before.outside_is_on net.now (before_of marks.now region.now) family rule }
@@ -111,7 +117,7 @@ pub fn outside_is_on(net: &Net, marks: &Marks, region: &Region, family: Family, 
 
 /// Whether some literal of the rule's body that stands outside the region is refuted.
 pub fn outside_is_off(
-    net: &Net,
+    net: &Graph<'_>,
     marks: &Marks,
     region: &Region,
     family: Family,

@@ -15,11 +15,11 @@ use crate::whole_run::Gates;
 use crate::wire::Wire;
 use dl_base::Memory;
 use dl_marks::Marks;
-use dl_net::{Link, Net, Region};
+use dl_net::{Graph, Link, Region};
 use std::alloc::Global;
 
 /// Serves each number to which the link leads.
-fn ask_link(net: &Net, width: usize, link: Link, from: usize, to: usize, needs: &mut Needs)
+fn ask_link(net: &Graph<'_>, width: usize, link: Link, from: usize, to: usize, needs: &mut Needs)
     requires { (y : ℕ) → 0 < times y (through width to (next net.now link from)) → y < length needs.old.needs }
     ensures { needs.new ≡ fold serve needs.old (through width to (next net.now link from)) }
 {
@@ -31,7 +31,7 @@ fn ask_link(net: &Net, width: usize, link: Link, from: usize, to: usize, needs: 
 }
 
 /// Serves each node to which a node leads.
-fn ask(net: &Net, width: usize, wires: &[Wire], node: usize, needs: &mut Needs)
+fn ask(net: &Graph<'_>, width: usize, wires: &[Wire], node: usize, needs: &mut Needs)
     requires width { 0 < width }
     requires inside { (y : ℕ) → 0 < times y (edges net.now width wires.now node) → y < length needs.old.needs }
     ensures { needs.new ≡ fold serve needs.old (edges net.now width wires.now node) }
@@ -55,7 +55,7 @@ fn reversed(nodes: Vec<usize>) -> Vec<usize>
 /// One node, from the end: it is kept if it is wanted, or if a kept node asks for it.
 fn visit<G: Gates>(
     gates: &G,
-    net: &Net,
+    net: &Graph<'_>,
     width: usize,
     wires: &[Wire],
     marks: &Marks,
@@ -89,7 +89,7 @@ fn visit<G: Gates>(
 pub fn prune<G: Gates>(
     alloc: Global,
     gates: &G,
-    net: &Net,
+    net: &Graph<'_>,
     width: usize,
     wires: &[Wire],
     marks: &Marks,

@@ -15,7 +15,7 @@ ghost use Rattle.dl_fill.specs.Spans.{IsSpans};
 use crate::counters::Counters;
 use crate::spans::Spans;
 use crate::wire::{Gate, Wire};
-use dl_net::{Link, Net, Region};
+use dl_net::{Graph, Link, Region};
 
 /// One more where it is inside.
 // Inlined always, as all below: so the wires and the width of a family are constants, and no node costs a call.
@@ -29,7 +29,7 @@ fn more_if(count: usize, inside: bool) -> usize
 
 /// How many literals of the body of a rule are in the region. Where all numbers are, none of them is read.
 #[inline(always)]
-fn inside_len(net: &Net, region: &Region, rule: usize) -> usize
+fn inside_len(net: &Graph<'_>, region: &Region, rule: usize) -> usize
     requires { region.now.bound ≡ length net.now.names }
     ensures len { result ≡ length (filter (is_inside region.now.members) (back net.now link_kind.Uses rule)) }
     ensures few { result < 2 ^ 26 }
@@ -50,7 +50,7 @@ fn inside_len(net: &Net, region: &Region, rule: usize) -> usize
 
 /// How many inputs a link gives.
 #[inline(always)]
-fn inner_len(net: &Net, region: &Region, link: Link, place: usize) -> usize
+fn inner_len(net: &Graph<'_>, region: &Region, link: Link, place: usize) -> usize
     requires { region.now.bound ≡ length net.now.names }
     ensures len { result ≡ length (inner net.now (is_inside region.now.members) link place) }
     ensures few { result < 2 ^ 26 }
@@ -69,7 +69,7 @@ fn inner_len(net: &Net, region: &Region, link: Link, place: usize) -> usize
 /// How many inputs some wires make of a node.
 #[inline(always)]
 fn inputs_len(
-    net: &Net,
+    net: &Graph<'_>,
     region: &Region,
     width: usize,
     wires: &[Wire],
@@ -93,7 +93,7 @@ fn inputs_len(
 /// How many inputs a node has, where its gate asks for them. Of the wires those alone are read that lead to its kind.
 #[inline(always)]
 pub fn inputs_asked(
-    net: &Net,
+    net: &Graph<'_>,
     region: &Region,
     width: usize,
     wires: &[Wire],

@@ -2,7 +2,7 @@
 //!
 //! A family is a table of wires between nodes, and one engine that knows nothing of logic runs them all. A node is of a kind, at
 //! the place of a literal or of a rule: kind `k` at place `i` is the number `i * width + k`. A wire leads from each node of one
-//! kind to the nodes of another kind where a link of the net leads. A node has a gate, which says whether it waits for all of
+//! kind to the nodes of another kind where a link of the graph leads. A node has a gate, which says whether it waits for all of
 //! its inputs or for one of them, or fires at once or never. Each node is popped at most once and each edge is walked once.
 //! A node reads only the part of the wires in which those of its kind stand (`spans.rt`).
 //!
@@ -35,7 +35,7 @@
 //!   has fired, where what meets its condition fires. `proofs/Tables.antt`: `kinds_tested` and `live_of`, by a test of the wires.
 //! - `proofs/InOrder.antt`: `run_ordered` (a queue after a run is in such an order). `proofs/Derived.antt`: `IsFamily` (what is asked
 //!   of a family), and `read_derives`: nodes in such an order, read as tagged literals, are a derivation.
-//! - `proofs/Links.antt`: what the rows of a net list (`backs_listing`, `proves_listing`, `opposes_listing`,
+//! - `proofs/Links.antt`: what the rows of a graph list (`backs_listing`, `proves_listing`, `opposes_listing`,
 //!   `defends_listing`, `counters_listing`), and `links_turned`.
 //! - `proofs/Written.antt`: `exact_of_right` and `exact_of_ready` (what gates read), `one_filled` and `written_right` (the marks
 //!   after `write_family`).

@@ -12,12 +12,19 @@ ghost use Rattle.dl_fill.specs.Spans.{IsSpans};
 use crate::counters::Counters;
 use crate::spans::Spans;
 use crate::wire::Wire;
-use dl_net::{Link, Net};
+use dl_net::{Graph, Link};
 
 /// One hit for each number to which the link leads.
 // Inlined always, as all below: so the width of a family is a constant, and no node costs a division.
 #[inline(always)]
-fn follow(net: &Net, width: usize, link: Link, from: usize, to: usize, counters: &mut Counters)
+fn follow(
+    net: &Graph<'_>,
+    width: usize,
+    link: Link,
+    from: usize,
+    to: usize,
+    counters: &mut Counters,
+)
     requires { (y : ℕ) → 0 < times y (through width to (next net.now link from)) → y < length counters.old.need }
     ensures { counters.new ≡ fold hit counters.old (through width to (next net.now link from)) }
 {
@@ -30,7 +37,7 @@ fn follow(net: &Net, width: usize, link: Link, from: usize, to: usize, counters:
 
 /// One hit for each number to which the link leads. Which link it is, is asked once, and not at each number.
 #[inline(always)]
-fn send(net: &Net, width: usize, link: Link, from: usize, to: usize, counters: &mut Counters)
+fn send(net: &Graph<'_>, width: usize, link: Link, from: usize, to: usize, counters: &mut Counters)
     requires { (y : ℕ) → 0 < times y (through width to (next net.now link from)) → y < length counters.old.need }
     ensures { counters.new ≡ fold hit counters.old (through width to (next net.now link from)) }
 {
@@ -47,7 +54,7 @@ fn send(net: &Net, width: usize, link: Link, from: usize, to: usize, counters: &
 
 /// The hits that some wires make of a node that has fired.
 #[inline(always)]
-fn fire(net: &Net, width: usize, wires: &[Wire], node: usize, counters: &mut Counters)
+fn fire(net: &Graph<'_>, width: usize, wires: &[Wire], node: usize, counters: &mut Counters)
     requires width { 0 < width }
     requires inside { (y : ℕ) → 0 < times y (edges net.now width wires.now node) → y < length counters.old.need }
     ensures { counters.new ≡ fold hit counters.old (edges net.now width wires.now node) }
@@ -62,7 +69,7 @@ fn fire(net: &Net, width: usize, wires: &[Wire], node: usize, counters: &mut Cou
 /// The hits of a node that has fired. Of the wires those alone are read that lead from its kind.
 #[inline(always)]
 fn fire_kind(
-    net: &Net,
+    net: &Graph<'_>,
     width: usize,
     wires: &[Wire],
     spans: &Spans,
@@ -79,7 +86,7 @@ fn fire_kind(
 
 /// Fires the nodes of the queue until no more come.
 #[inline(always)]
-pub fn run(net: &Net, width: usize, wires: &[Wire], counters: &mut Counters)
+pub fn run(net: &Graph<'_>, width: usize, wires: &[Wire], counters: &mut Counters)
     requires width { 0 < width }
     requires inside { (x y : ℕ) → x < length counters.old.need → 0 < times y (edges net.now width wires.now x) → y < length counters.old.need }
     requires queued { (x : ℕ) → 0 < times x counters.old.queue → x < length counters.old.need }

@@ -6,10 +6,10 @@ ghost use Rattle.dl_net.specs.Numbers as numbers;
 ghost use Rattle.dl_fill.specs.Touched.{Touches, Grows};
 
 use crate::attack::is_everywhere;
-use dl_net::{Net, Region};
+use dl_net::{Graph, Region};
 
 /// Adds the rules with that head.
-fn touch_heads(net: &Net, number: usize, rules: &mut Region)
+fn touch_heads(net: &Graph<'_>, number: usize, rules: &mut Region)
     requires room { length net.now.theory.rules ≤ rules.old.bound }
     ensures there { (r : ℕ) → 0 < times r (numbers.heads net.now number) → 0 < times r rules.new.members }
     ensures grows { Grows rules.old rules.new }
@@ -24,7 +24,7 @@ fn touch_heads(net: &Net, number: usize, rules: &mut Region)
 }
 
 /// Adds the rules for each literal that attacks the number.
-fn touch_against(net: &Net, number: usize, rules: &mut Region)
+fn touch_against(net: &Graph<'_>, number: usize, rules: &mut Region)
     requires number { number < length net.now.names }
     requires room { length net.now.theory.rules ≤ rules.old.bound }
     ensures there { (c : ℕ) → 0 < times c (numbers.attackers_row net.now (numbers.literal_at net.now number)) → (u : ℕ) → 0 < times u (numbers.heads net.now c) → 0 < times u rules.new.members }
@@ -39,7 +39,7 @@ fn touch_against(net: &Net, number: usize, rules: &mut Region)
 }
 
 /// Adds all rules, in the order of the list, in which memory is read fastest.
-fn touch_all(net: &Net, rules: &mut Region)
+fn touch_all(net: &Graph<'_>, rules: &mut Region)
     requires room { length net.now.theory.rules ≤ rules.old.bound }
     ensures there { (r : ℕ) → r < length net.now.theory.rules → 0 < times r rules.new.members }
     ensures bound { rules.new.bound ≡ rules.old.bound }
@@ -50,7 +50,7 @@ fn touch_all(net: &Net, rules: &mut Region)
 }
 
 /// Adds the rules for the members of the region and those against them.
-fn touch_members(net: &Net, region: &Region, rules: &mut Region)
+fn touch_members(net: &Graph<'_>, region: &Region, rules: &mut Region)
     requires bound { region.now.bound ≡ length net.now.names }
     requires room { length net.now.theory.rules ≤ rules.old.bound }
     ensures touches { Touches net.now region.now.members rules.new.members }
@@ -67,7 +67,7 @@ fn touch_members(net: &Net, region: &Region, rules: &mut Region)
 }
 
 /// Makes the rules those for the members of the region and those against them. Where each literal is a member, so is each rule.
-pub fn touch(net: &Net, region: &Region, rules: &mut Region)
+pub fn touch(net: &Graph<'_>, region: &Region, rules: &mut Region)
     requires bound { region.now.bound ≡ length net.now.names }
     requires room { length net.now.theory.rules ≤ rules.old.bound }
     ensures touches { Touches net.now region.now.members rules.new.members }

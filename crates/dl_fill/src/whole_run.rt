@@ -20,14 +20,21 @@ use crate::spans::Spans;
 use crate::touch::touch;
 use crate::wire::{Gate, Wire};
 use dl_marks::Marks;
-use dl_net::{Net, Region};
+use dl_net::{Graph, Region};
 
 /// The gates of a family.
 pub trait Gates {
     ghost tells: { Self → NetLists → Before → ℕ → ℕ → Gate };
 
     /// The gate of a node that the region touches.
-    fn gate(&self, net: &Net, marks: &Marks, region: &Region, kind: usize, place: usize) -> Gate
+    fn gate(
+        &self,
+        net: &Graph<'_>,
+        marks: &Marks,
+        region: &Region,
+        kind: usize,
+        place: usize,
+    ) -> Gate
         requires bound { region.now.bound ≡ length net.now.names }
         requires room { length net.now.names ≤ places marks.now }
         ensures { result ≡ tells self.now net.now (before_of marks.now region.now) kind place };
@@ -41,7 +48,7 @@ impl Gates for NoGates {
 
     fn gate(
         &self,
-        _net: &Net,
+        _net: &Graph<'_>,
         _marks: &Marks,
         _region: &Region,
         _kind: usize,
@@ -56,7 +63,7 @@ impl Gates for NoGates {
 #[inline(always)]
 fn begin_node<G: Gates>(
     gates: &G,
-    net: &Net,
+    net: &Graph<'_>,
     width: usize,
     wires: &[Wire],
     spans: &Spans,
@@ -87,7 +94,7 @@ fn begin_node<G: Gates>(
 #[inline(always)]
 fn begin_kind<G: Gates>(
     gates: &G,
-    net: &Net,
+    net: &Graph<'_>,
     width: usize,
     wires: &[Wire],
     spans: &Spans,
@@ -160,7 +167,7 @@ fn begin_kind<G: Gates>(
 #[inline(always)]
 fn begin_place<G: Gates>(
     gates: &G,
-    net: &Net,
+    net: &Graph<'_>,
     width: usize,
     wires: &[Wire],
     spans: &Spans,
@@ -202,7 +209,7 @@ fn begin_place<G: Gates>(
 #[inline(always)]
 fn begin_places<G: Gates>(
     gates: &G,
-    net: &Net,
+    net: &Graph<'_>,
     width: usize,
     wires: &[Wire],
     marks: &Marks,
@@ -236,7 +243,7 @@ fn begin_places<G: Gates>(
 #[inline(always)]
 pub fn solve<G: Gates>(
     gates: &G,
-    net: &Net,
+    net: &Graph<'_>,
     width: usize,
     literals: usize,
     wires: &[Wire],
@@ -284,7 +291,7 @@ pub fn solve<G: Gates>(
 
 /// Leaves the counters clean, node by node of what the region touches.
 fn tidy_touched(
-    net: &Net,
+    net: &Graph<'_>,
     width: usize,
     literals: usize,
     marks: &Marks,
@@ -332,7 +339,7 @@ fn tidy_touched(
 
 /// Leaves the counters clean, at the cost of what the region touches. Where a good part of all nodes have fired, all are cleared at once.
 pub fn tidy(
-    net: &Net,
+    net: &Graph<'_>,
     width: usize,
     literals: usize,
     marks: &Marks,

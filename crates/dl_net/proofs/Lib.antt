@@ -19,6 +19,9 @@ pub mod KeptLemmas
 pub mod RowLemmas
 pub mod UpperLemmas
 pub mod FindLemmas
+pub mod GraphLemmas
+pub mod NumberedLemmas
+pub mod BareLemmas
 pub mod OccursLemmas
 pub mod StagedLemmas
 mod RegionLemmas

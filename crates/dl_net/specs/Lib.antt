@@ -20,4 +20,8 @@ pub mod Staged
 pub mod KeptStaged
 pub mod Room
 pub mod KeptNet
+pub mod FromNumbers
+pub mod KeptGraph
+pub mod KeptNumbered
+pub mod KeptNumberedNet
 pub mod Region

@@ -131,6 +131,7 @@ impl Index {
         ensures lowers { OnOk result (self.new.lowers ≡ self.old.lowers ++ [] ∷ []) }
         ensures uppers { OnOk result (self.new.uppers ≡ self.old.uppers ++ [] ∷ []) }
         ensures numbers { OnOk result (self.new.numbers ≡ self.old.numbers + 1) }
+        ensures kept { OnErr result (KeepsRules self.old self.new) }
     {
         self.room = Room::Nothing;
         reserve_rule(

@@ -3,10 +3,10 @@
 ghost use Rattle.std.specs.Prelude.{◌≡◌, ◌<◌, ◌^◌, IsSome, Some, length, slice_index, option_to_list};
 ghost use Rattle.dl_net.specs.Numbers.{next, back};
 
+use crate::graph::Graph;
 use crate::link::Link;
-use crate::net::Net;
 
-impl Net {
+impl<'a> Graph<'a> {
     /// To how many numbers a link leads.
     // always inlined, as what it reads: a fill knows the link of each wire, and walks a row without a call
     #[inline(always)]

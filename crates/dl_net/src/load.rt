@@ -1,9 +1,10 @@
 //! The indexes of a whole theory, in one pass over its rules and one over its pairs.
 
-ghost use Rattle.std.specs.Prelude.{◌≡◌, ◌<◌, ◌^◌, ◌+◌, ◌==◌, ◌∷◌, ◌++◌, ℕ, List, [], Some, IfOk, OnOk, All, Contains, length, map, get_or, slice_get};
+ghost use Rattle.std.specs.Prelude.{◌≡◌, ◌<◌, ◌^◌, ◌+◌, ◌==◌, ◌∷◌, ◌++◌, ℕ, List, [], Some, IfOk, OnOk, OnErr, All, Contains, length, map, get_or, slice_get};
 ghost use Rattle.dl_base.specs.Paths.{IsDistinct};
 ghost use Rattle.dl_theory.specs.declared.rule.Rule.{Rule};
-ghost use Rattle.dl_theory.specs.Lists.{labels};
+ghost use Rattle.dl_theory.specs.Lists as lists;
+ghost use Rattle.dl_theory.specs.Lists.{TheoryLists, IsWellFormed};
 ghost use Rattle.dl_theory.specs.declared.rule.Pair.{Pair};
 ghost use Rattle.dl_theory.specs.Tests as test;
 ghost use Rattle.dl_net.specs.Above.{flip, lower_step, upper_step};
@@ -18,7 +19,8 @@ use crate::names::PairedNames;
 use crate::number::number_rule;
 use crate::region::Region;
 use dl_base::Memory;
-use dl_theory::{Rule, Theory};
+use dl_lit::{Name, NameSet};
+use dl_theory::{Rule, Superiority, Theory};
 use std::alloc::Global;
 
 /// The number of the complement: literals stand beside their complements.
@@ -53,7 +55,7 @@ pub(crate) fn index_of(
 {
     let mut index = Index::make(alloc);
     load_rules(alloc, names, &mut index, theory.rules())?;
-    load_pairs(&mut index, names, theory)?;
+    load_pairs(&mut index, names, theory.labels(), theory.superiority())?;
     Ok(index)
 }
 
@@ -102,7 +104,7 @@ pub(crate) fn room_for_rule(
 }
 
 /// One more rule, whose literals and their complements get numbers.
-fn load_rule(
+pub(crate) fn load_rule(
     alloc: Global,
     rule: &Rule,
     names: &mut PairedNames,
@@ -119,6 +121,7 @@ fn load_rule(
     ensures lowers { OnOk result (index.new.lowers ≡ index.old.lowers ++ [] ∷ []) }
     ensures uppers { OnOk result (index.new.uppers ≡ index.old.uppers ++ [] ∷ []) }
     ensures numbers { OnOk result (index.new.numbers ≡ index.old.numbers + 1) }
+    ensures kept { OnErr result (KeepsRules index.old index.new) }
 {
     let entry = numbered(alloc, rule, names, seen, index)?;
     index.add(entry)
@@ -154,25 +157,30 @@ fn load_rules(
     Ok(())
 }
 
-/// Which rules stand below and above each rule.
+/// Which rules stand below and above each rule, where the rules have these labels and these are the pairs.
 pub(crate) fn load_pairs(
     index: &mut Index,
     names: &PairedNames,
-    theory: &Theory,
+    labels: &NameSet<Name>,
+    pairs: &Superiority,
 ) -> Result<(), Memory>
+    ghost theory: { TheoryLists }
+    requires formed { IsWellFormed theory }
+    requires labels { lists.labels theory ≡ labels.now.keys }
+    requires pairs { theory.pairs ≡ pairs.now }
     requires distinct { IsDistinct names.now.literals }
     requires paired { IsPaired names.now.literals }
-    requires named { All (HasLiterals names.now.literals) theory.now.rules }
-    requires lines { index.old.lines ≡ map (line_in names.now.literals) theory.now.rules }
-    requires lowers { index.old.lowers ≡ map (λ _. []) theory.now.rules }
-    requires uppers { index.old.uppers ≡ map (λ _. []) theory.now.rules }
+    requires named { All (HasLiterals names.now.literals) theory.rules }
+    requires lines { index.old.lines ≡ map (line_in names.now.literals) theory.rules }
+    requires lowers { index.old.lowers ≡ map (λ _. []) theory.rules }
+    requires uppers { index.old.uppers ≡ map (λ _. []) theory.rules }
     ensures lines { OnOk result (index.new.lines ≡ index.old.lines) }
     ensures numbers { OnOk result (index.new.numbers ≡ index.old.numbers) }
-    ensures lowers { OnOk result (index.new.lowers ≡ map (λ t. flat_map (λ p. lower_step theory.now p t) theory.now.pairs) theory.now.rules) }
-    ensures uppers { OnOk result (index.new.uppers ≡ map (λ u. flat_map (λ p. upper_step theory.now p u) theory.now.pairs) theory.now.rules) }
+    ensures lowers { OnOk result (index.new.lowers ≡ map (λ t. flat_map (λ p. lower_step theory p t) theory.pairs) theory.rules) }
+    ensures uppers { OnOk result (index.new.uppers ≡ map (λ u. flat_map (λ p. upper_step theory p u) theory.pairs) theory.rules) }
 {
-    for at in 0..theory.pairs_len() {
-        load_pair(index, names, theory, at)?;
+    for at in 0..pairs.len() {
+        load_pair(index, names, labels, pairs, at)?;
     }
     Ok(())
 }
@@ -181,20 +189,25 @@ pub(crate) fn load_pairs(
 fn load_pair(
     index: &mut Index,
     names: &PairedNames,
-    theory: &Theory,
+    labels: &NameSet<Name>,
+    pairs: &Superiority,
     at: usize,
 ) -> Result<(), Memory>
+    ghost theory: { TheoryLists }
+    requires formed { IsWellFormed theory }
+    requires labels { lists.labels theory ≡ labels.now.keys }
+    requires pairs { theory.pairs ≡ pairs.now }
     requires distinct { IsDistinct names.now.literals }
     requires paired { IsPaired names.now.literals }
-    requires named { All (HasLiterals names.now.literals) theory.now.rules }
-    requires lines { index.old.lines ≡ map (line_in names.now.literals) theory.now.rules }
-    requires within { at < length theory.now.pairs }
+    requires named { All (HasLiterals names.now.literals) theory.rules }
+    requires lines { index.old.lines ≡ map (line_in names.now.literals) theory.rules }
+    requires within { at < length theory.pairs }
     ensures lines { OnOk result (index.new.lines ≡ index.old.lines) }
     ensures numbers { OnOk result (index.new.numbers ≡ index.old.numbers) }
-    ensures lowers { OnOk result ((p : Pair) → slice_get theory.now.pairs at ≡ Some p → (F : Rule → List ℕ) → index.old.lowers ≡ map F theory.now.rules → index.new.lowers ≡ map (λ t. F t ++ lower_step theory.now p t) theory.now.rules) }
-    ensures uppers { OnOk result ((p : Pair) → slice_get theory.now.pairs at ≡ Some p → (F : Rule → List ℕ) → index.old.uppers ≡ map F theory.now.rules → index.new.uppers ≡ map (λ u. F u ++ upper_step theory.now p u) theory.now.rules) }
+    ensures lowers { OnOk result ((p : Pair) → slice_get theory.pairs at ≡ Some p → (F : Rule → List ℕ) → index.old.lowers ≡ map F theory.rules → index.new.lowers ≡ map (λ t. F t ++ lower_step theory p t) theory.rules) }
+    ensures uppers { OnOk result ((p : Pair) → slice_get theory.pairs at ≡ Some p → (F : Rule → List ℕ) → index.old.uppers ≡ map F theory.rules → index.new.uppers ≡ map (λ u. F u ++ upper_step theory p u) theory.rules) }
 {
-    match theory.pair_rules(at) {
+    match pairs.rules_of(labels, at) {
         None => unreachable!(),
         Some((upper, lower)) => {
             if !meet(index, names, upper, lower) {

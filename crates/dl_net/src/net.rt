@@ -9,9 +9,10 @@ ghost use Rattle.dl_lit.specs.Literal.{literal_eq};
 ghost use Rattle.dl_theory.specs.Lists.{IsWellFormed};
 ghost use Rattle.dl_theory.specs.Listings.{Mentions};
 
+use crate::graph::{Graph, Source};
 use crate::index::Index;
 use crate::link::Link;
-use crate::load::{index_of, other};
+use crate::load::index_of;
 use crate::names::PairedNames;
 use crate::number::mark_facts;
 use crate::staged::Staged;
@@ -106,13 +107,26 @@ impl Net {
         }
     }
 
+    /// What a fill reads of the net.
+    #[inline(always)]
+    pub fn graph(&self) -> Graph<'_>
+        ensures { result ≡ record self.now { pending = None; frozen = false } }
+    {
+        Graph {
+            names: &self.names,
+            facts: &self.facts,
+            index: &self.index,
+            source: Source::Staged(&self.staged),
+        }
+    }
+
     /// The number of a literal; `None` exactly where it has none.
     pub fn find(&self, literal: &Literal) -> Option<usize>
         ensures number { result ≡ position (literal_eq literal.now) self.now.names }
         ensures there { IfSome result (λ n. (n < length self.now.names) × (n ≡ number self.now literal.now)) }
         ensures absent { IfNone result (¬ Contains self.now.names literal.now) }
     {
-        self.names.find(literal)
+        self.graph().find(literal)
     }
 
     /// How many literals have numbers.
@@ -121,7 +135,7 @@ impl Net {
         ensures numbered { IsNumbered self.now }
         ensures formed { IsWellFormed self.now.theory }
     {
-        self.names.len()
+        self.graph().names()
     }
 
     /// The literal with this number.
@@ -129,10 +143,7 @@ impl Net {
         requires { number < length self.now.names }
         ensures { result.now ≡ literal_at self.now number }
     {
-        match self.names.literal(number) {
-            Some(literal) => literal,
-            None => unreachable!(),
-        }
+        self.graph().literal(number)
     }
 
     /// The number of the complement.
@@ -141,8 +152,7 @@ impl Net {
         ensures other { result ≡ number_of_other self.now number }
         ensures within { result < length self.now.names }
     {
-        let _count = self.names.len();
-        other(number)
+        self.graph().other(number)
     }
 
     /// The number of the literal at a place among those that attack the literal; `None` exactly where there are not so many.
@@ -150,11 +160,7 @@ impl Net {
         requires { number < length self.now.names }
         ensures { result ≡ slice_get (attackers_row self.now (literal_at self.now number)) at }
     {
-        if at == 0 {
-            Some(self.other(number))
-        } else {
-            None
-        }
+        self.graph().attacker(number, at)
     }
 
     /// Whether the literal with this number is a fact.
@@ -162,7 +168,7 @@ impl Net {
         requires { number < length self.now.names }
         ensures { result ≡ is_fact self.now number }
     {
-        number < self.facts.len() && *self.facts.at(number)
+        self.graph().is_fact(number)
     }
 
     pub fn facts_len(&self) -> usize
@@ -174,7 +180,7 @@ impl Net {
     pub fn rules_len(&self) -> usize
         ensures { result ≡ length self.now.theory.rules }
     {
-        self.staged.rules_len()
+        self.graph().rules_len()
     }
 
     pub fn pairs_len(&self) -> usize

@@ -1,18 +1,16 @@
-//! Rules of a net by number.
+//! Rules of a graph by number.
 
 ghost use Rattle.std.specs.Prelude.{◌≡◌, ◌<◌, ◌≤◌, ◌^◌, ◌↔◌, IsTrue, IsSome, Some, true, length, map, slice_get, option_to_list};
-ghost use Rattle.dl_theory.specs.Lists.{can_support, Beats, IsAbove};
+ghost use Rattle.dl_theory.specs.Lists.{can_support};
 ghost use Rattle.dl_theory.specs.Listings.{Mentions, Occurs};
 ghost use Rattle.dl_net.specs.declared.link.Link.TheVariants.{Uses};
 ghost use Rattle.dl_net.specs.Numbers.{back, number, rule_at, literal_at, body_row, backs_row, proves_row, opposes_row, lowers_row, uppers_row, defends_row};
 ghost use Rattle.dl_net.specs.Rows.{row, places};
 ghost use Rattle.dl_net.specs.Named.{head_row, concluded_row};
 
-use crate::load::other;
-use crate::net::Net;
-use dl_lit::Name;
+use crate::graph::Graph;
 
-impl Net {
+impl<'a> Graph<'a> {
     /// The at-th rule, in list order, with this head; `None` exactly where there are not so many.
     pub fn heads(&self, number: usize, at: usize) -> Option<usize>
         ensures { result ≡ slice_get (places (head_row self.now) self.now.theory.rules number) at }
@@ -51,28 +49,6 @@ impl Net {
         ensures { result ≡ slice_get (back self.now Uses rule) at }
     {
         self.index.once(rule, at)
-    }
-
-    /// Whether the rule at one place is superior to the rule at another.
-    pub fn beats(&self, upper: usize, lower: usize) -> bool
-        requires upper { upper < length self.now.theory.rules }
-        requires lower { lower < length self.now.theory.rules }
-        ensures { IsTrue result ↔ Beats self.now.theory (rule_at self.now upper) (rule_at self.now lower) }
-    {
-        match self.rule(upper) {
-            None => unreachable!(),
-            Some(above) => match self.rule(lower) {
-                None => unreachable!(),
-                Some(below) => self.is_above(&above.label, &below.label),
-            },
-        }
-    }
-
-    /// Whether the pair of two labels is in the list.
-    fn is_above(&self, upper: &Name, lower: &Name) -> bool
-        ensures { IsTrue result ↔ IsAbove self.now.theory.pairs upper.now lower.now }
-    {
-        self.staged.is_above(upper, lower)
     }
 
     /// Whether the literal with this number is one of the theory: it or its complement is a fact, a head or in a body.

@@ -18,10 +18,10 @@ use dl_fill::{
 };
 use dl_lit::{Family, Tag};
 use dl_marks::{Marks, Steps};
-use dl_net::{Link, Net, Region};
+use dl_net::{Graph, Link, Region};
 use std::sync::ledger::Ledger;
 
-fn gate_of_literal(net: &Net, marks: &Marks, kind: usize, number: usize) -> Gate
+fn gate_of_literal(net: &Graph<'_>, marks: &Marks, kind: usize, number: usize) -> Gate
     requires number { number < length net.now.names }
     requires room { length net.now.names ≤ places marks.now }
     ensures { result ≡ literal_gate net.now (marked marks.now) kind number }
@@ -47,7 +47,7 @@ fn gate_of_literal(net: &Net, marks: &Marks, kind: usize, number: usize) -> Gate
     }
 }
 
-fn gate_of_rule(net: &Net, marks: &Marks, region: &Region, kind: usize, rule: usize) -> Gate
+fn gate_of_rule(net: &Graph<'_>, marks: &Marks, region: &Region, kind: usize, rule: usize) -> Gate
     requires bound { region.now.bound ≡ length net.now.names }
     requires room { length net.now.names ≤ places marks.now }
     ensures { result ≡ rule_gate net.now (before_of marks.now region.now) kind rule }
@@ -71,7 +71,14 @@ pub struct PropGates;
 impl Gates for PropGates {
     ghost tells = { λ _ N b k i. propagation_gate N b k i };
 
-    fn gate(&self, net: &Net, marks: &Marks, region: &Region, kind: usize, place: usize) -> Gate {
+    fn gate(
+        &self,
+        net: &Graph<'_>,
+        marks: &Marks,
+        region: &Region,
+        kind: usize,
+        place: usize,
+    ) -> Gate {
         if kind < 6 {
             if place < net.names() {
                 gate_of_literal(net, marks, kind, place)
@@ -155,7 +162,7 @@ pub fn bases() -> [Basis; 6]
 }
 
 /// Runs the counters until exactly what follows in the region has fired.
-fn solve_prop(net: &Net, marks: &Marks, region: &Region, places: usize, parts: &mut Parts)
+fn solve_prop(net: &Graph<'_>, marks: &Marks, region: &Region, places: usize, parts: &mut Parts)
     requires idle { IsIdle 14 places parts.old.counters parts.old.rules }
     requires names { length net.now.names ≤ places }
     requires rules { length net.now.theory.rules ≤ places }
@@ -185,7 +192,7 @@ fn solve_prop(net: &Net, marks: &Marks, region: &Region, places: usize, parts: &
 
 /// A fill with what it counts with, which is left as it was.
 fn fill_with<L: Ledger>(
-    net: &Net,
+    net: &Graph<'_>,
     marks: &mut Marks,
     region: &Region,
     places: usize,
@@ -237,7 +244,7 @@ fn fill_with<L: Ledger>(
 /// Sets exactly the marks of the families propagating and support that follow, in a region outside which they are right. It costs
 /// what the region touches: its literals, the rules for and against them, and their edges.
 pub fn fill_prop<L: Ledger>(
-    net: &Net,
+    net: &Graph<'_>,
     marks: &mut Marks,
     region: &Region,
     work: &mut PropWork,

@@ -1,4 +1,4 @@
-//! What follows in the families propagating, where ambiguity propagates, and support: by counters in a region of a net.
+//! What follows in the families propagating, where ambiguity propagates, and support: by counters in a region of a graph.
 //!
 //! The two look at each other. A literal is concluded in propagating as in the blocking family, except that an attacker is
 //! dismissed where it lacks support, and not where it is merely refuted. A literal has support where it is definite, or where

@@ -136,13 +136,13 @@ loads_or_stops bytes T (stop.Edit k x) h i =
 loads_or_stops bytes T stop.Memory h i = refl
 
 -- what loads is answered
-pub answer_loads : (bytes : List ℕ) (result : Result TheoryLists ReadStop) → IfOk result (Loads bytes) → IfErr result (IsReadStop bytes)
-    → (T : TheoryLists) → Loads bytes T → MatchResult result (λ U. U ≡ T) (λ x. x ≡ stop.Memory)
-answer_loads bytes (Ok U) l s T h = loads_one bytes T U h l
-answer_loads bytes (Err x) l s T h = loads_or_stops bytes T x h s
+pub answer_loads : {A : Type 0} (lists : A → TheoryLists) (bytes : List ℕ) (result : Result A ReadStop) → IfOk result (λ t. Loads bytes (lists t))
+    → IfErr result (IsReadStop bytes) → (T : TheoryLists) → Loads bytes T → MatchResult result (λ t. lists t ≡ T) (λ x. x ≡ stop.Memory)
+answer_loads lists bytes (Ok t) l s T h = loads_one bytes T (lists t) h l
+answer_loads lists bytes (Err x) l s T h = loads_or_stops bytes T x h s
 
 -- what does not load is not
-pub answer_stops : (bytes : List ℕ) (result : Result TheoryLists ReadStop) → IfOk result (Loads bytes)
+pub answer_stops : {A : Type 0} (lists : A → TheoryLists) (bytes : List ℕ) (result : Result A ReadStop) → IfOk result (λ t. Loads bytes (lists t))
     → (x : ReadStop) → IsReadStop bytes x → (x ≡ stop.Memory → ⊥) → IsErr result
-answer_stops bytes (Ok U) l x s n = absurd (n (loads_or_stops bytes U x l s))
-answer_stops bytes (Err y) l x s n = refl
+answer_stops lists bytes (Ok t) l x s n = absurd (n (loads_or_stops bytes (lists t) x l s))
+answer_stops lists bytes (Err y) l x s n = refl

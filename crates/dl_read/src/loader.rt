@@ -1,14 +1,15 @@
 //! Loading what lines say: facts and rules at once, and pairs when all lines are read.
 
-ghost use Rattle.std.specs.Prelude.{◌≡◌, ◌+◌, [], ◌∷◌, ◌++◌, List, length, None, Some, IfOk, IfErr, OnOk};
+ghost use Rattle.std.specs.Prelude.{◌≡◌, ◌+◌, [], ◌∷◌, ◌++◌, List, length, None, Some, IfOk, IfErr, OnOk, is_some};
 ghost use Rattle.dl_theory.specs.declared.edit.Edit.TheVariants as edit;
 ghost use Rattle.dl_read.specs.Files.{label_of, placed, Placed, AreMade, IsLoadStop, in_loading_order, AddsPairs, IsWaitingStop};
+ghost use Rattle.dl_read.specs.Loading.{IsNoted};
 ghost use Rattle.dl_read.specs.declared.statement.Statement.{Statement};
 
 use crate::file::ReadStop;
 use crate::statement::Statement;
-use dl_lit::{Memory, Name};
-use dl_theory::{Edit, EditRefusal, EditStop, Pair, PairsStop, Rule, Theory};
+use dl_lit::{Literal, Memory, Name};
+use dl_theory::{EditRefusal, EditStop, Loading, Pair, PairsStop, Rule};
 use itoa::write_digits;
 use std::alloc::Global;
 
@@ -30,11 +31,11 @@ impl Refused {
     }
 }
 
-/// A theory that is being loaded. After the first refusal it only takes lines.
+/// What is being loaded. After the first refusal it only takes lines.
 #[derive(Drop)]
-pub struct Loader {
+pub struct Loader<T> {
     pub alloc: Global,
-    pub theory: Theory,
+    pub target: T,
     pub refused: Option<Refused>,
     /// The pairs so far.
     pub pairs: Vec<Pair>,
@@ -42,48 +43,68 @@ pub struct Loader {
     pub lines: Vec<u64>,
 }
 
-impl Loader {
-    ghost use Rattle.dl_read.specs.Loading.{HasTaken, Waits, HasRead};
+impl<T: Loading> Loader<T> {
+    ghost use Rattle.dl_theory.specs.Lists.{no_lists};
+    ghost use Rattle.dl_read.specs.Loading.{HasTaken, Waits, held, HasRead};
 
-    pub fn make(alloc: Global) -> Loader
-        ensures { HasRead result [] }
+    pub fn make(alloc: Global, empty: T) -> Loader<T>
+        requires { T.lists empty ≡ no_lists }
+        ensures { HasRead (held T.lists result) [] }
     {
         Loader {
             alloc,
-            theory: Theory::make(alloc),
+            target: empty,
             refused: None,
             pairs: Vec::new(alloc),
             lines: Vec::new(alloc),
         }
     }
 
-    /// Makes the edit of a line, unless an earlier one was refused.
-    // so that the edit is made once, and not moved on the way
+    /// Whether an edit was refused.
     #[inline(always)]
-    fn add(&mut self, edit: Edit, line: u64) -> Result<(), Memory>
-        ensures taken { OnOk result ((ps : List Placed) → HasTaken self.old.refused self.old.theory ps
-            → HasTaken self.new.refused self.new.theory (ps ++ placed line (Some edit))) }
+    fn has_refused(&self) -> bool
+        ensures { result ≡ is_some self.now.refused }
+    {
+        self.refused.is_some()
+    }
+
+    /// Adds the fact of a line, unless an earlier edit was refused.
+    // so that the fact is made once, and not moved on the way
+    #[inline(always)]
+    fn add_fact(&mut self, fact: Literal, line: u64) -> Result<(), Memory>
+        ensures taken { OnOk result ((ps : List Placed) → HasTaken self.old.refused (T.lists self.old.target) ps
+            → HasTaken self.new.refused (T.lists self.new.target) (ps ++ placed line (Some (edit.AddFact fact)))) }
         ensures pairs { self.new.pairs ≡ self.old.pairs }
         ensures lines { self.new.lines ≡ self.old.lines }
     {
-        if self.refused.is_some() {
+        if self.has_refused() {
             return Ok(());
         }
-        match self.theory.apply_owned(edit) {
-            Ok(()) => Ok(()),
-            Err(EditStop::Memory) => Err(Memory),
-            Err(EditStop::Refused(refusal)) => {
-                self.refused = Some(Refused { line, refusal });
-                Ok(())
-            }
+        let answer = self.target.add_fact(fact);
+        note(&mut self.refused, answer, line)
+    }
+
+    /// Adds the rule of a line, unless an earlier edit was refused.
+    // so that the rule is made once, and not moved on the way
+    #[inline(always)]
+    fn add_rule(&mut self, rule: Rule, line: u64) -> Result<(), Memory>
+        ensures taken { OnOk result ((ps : List Placed) → HasTaken self.old.refused (T.lists self.old.target) ps
+            → HasTaken self.new.refused (T.lists self.new.target) (ps ++ placed line (Some (edit.AddRule rule)))) }
+        ensures pairs { self.new.pairs ≡ self.old.pairs }
+        ensures lines { self.new.lines ≡ self.old.lines }
+    {
+        if self.has_refused() {
+            return Ok(());
         }
+        let answer = self.target.add_rule(rule);
+        note(&mut self.refused, answer, line)
     }
 
     /// Keeps the pair of a line until all lines are read.
     fn wait(&mut self, pair: Pair, line: u64) -> Result<(), Memory>
         ensures waits { OnOk result ((ps : List Placed) → Waits ps self.old.pairs.items self.old.lines.items
             → Waits (ps ++ placed line (Some (edit.AddPair pair))) self.new.pairs.items self.new.lines.items) }
-        ensures theory { self.new.theory ≡ self.old.theory }
+        ensures target { self.new.target ≡ self.old.target }
         ensures refused { self.new.refused ≡ self.old.refused }
     {
         self.pairs.push(pair)?;
@@ -93,11 +114,12 @@ impl Loader {
 
     /// Takes what a line says. A rule without a label gets `_k`, where k is the number of the line.
     pub fn load(&mut self, statement: Statement, line: u64) -> Result<(), Memory>
-        ensures { OnOk result ((ss : List Statement) → line ≡ length ss + 1 → HasRead self.old ss → HasRead self.new (ss ++ statement ∷ [])) }
+        ensures { OnOk result ((ss : List Statement) → line ≡ length ss + 1 → HasRead (held T.lists self.old) ss
+            → HasRead (held T.lists self.new) (ss ++ statement ∷ [])) }
     {
         match statement {
             Statement::Blank => Ok(()),
-            Statement::Fact(fact) => self.add(Edit::AddFact(fact), line),
+            Statement::Fact(fact) => self.add_fact(fact, line),
             Statement::Rule {
                 label,
                 kind,
@@ -105,13 +127,13 @@ impl Loader {
                 head,
             } => {
                 let label = label_of(self.alloc, label, line)?;
-                self.add(
-                    Edit::AddRule(Rule {
+                self.add_rule(
+                    Rule {
                         label,
                         kind,
                         body,
                         head,
-                    }),
+                    },
                     line,
                 )
             }
@@ -119,35 +141,54 @@ impl Loader {
         }
     }
 
-    /// The theory with its pairs, or the first refusal.
-    pub fn finish(self) -> Result<Theory, ReadStop>
-        requires { (ss : List Statement) × HasRead self ss }
-        ensures loaded { IfOk result (λ theory. (ss : List Statement) → HasRead self ss → AreMade (in_loading_order ss) theory) }
-        ensures stopped { IfErr result (λ stop. (ss : List Statement) → HasRead self ss → IsLoadStop (in_loading_order ss) stop) }
+    /// What was loaded, with its pairs, or the first refusal.
+    pub fn finish(self) -> Result<T, ReadStop>
+        requires { (ss : List Statement) × HasRead (held T.lists self) ss }
+        ensures loaded { IfOk result (λ t. (ss : List Statement) → HasRead (held T.lists self) ss → AreMade (in_loading_order ss) (T.lists t)) }
+        ensures stopped { IfErr result (λ stop. (ss : List Statement) → HasRead (held T.lists self) ss → IsLoadStop (in_loading_order ss) stop) }
     {
         let Loader {
             alloc: _,
-            theory,
+            target,
             refused,
             pairs,
             lines,
         } = self;
         match refused {
             Some(refused) => Err(refused.stop()),
-            None => add_waiting(theory, pairs.as_slice(), lines.as_slice()),
+            None => add_waiting(target, pairs.as_slice(), lines.as_slice()),
         }
     }
 }
 
-/// The theory with these pairs, which stand on these lines.
-fn add_waiting(theory: Theory, pairs: &[Pair], lines: &[u64]) -> Result<Theory, ReadStop>
-    requires { length pairs.now ≡ length lines.now }
-    ensures loaded { IfOk result (AddsPairs theory pairs.now) }
-    ensures stopped { IfErr result (IsWaitingStop theory pairs.now lines.now) }
+/// Notes why the edit of a line was refused, where it was.
+#[inline(always)]
+fn note(
+    refused: &mut Option<Refused>,
+    answer: Result<(), EditStop>,
+    line: u64,
+) -> Result<(), Memory>
+    ensures { OnOk result (IsNoted answer line refused.old refused.new) }
 {
-    let mut theory = theory;
-    match theory.add_pairs(pairs) {
-        Ok(()) => Ok(theory),
+    match answer {
+        Ok(()) => Ok(()),
+        Err(EditStop::Memory) => Err(Memory),
+        Err(EditStop::Refused(refusal)) => {
+            *refused = Some(Refused { line, refusal });
+            Ok(())
+        }
+    }
+}
+
+/// What was loaded, with these pairs, which stand on these lines.
+fn add_waiting<T: Loading>(target: T, pairs: &[Pair], lines: &[u64]) -> Result<T, ReadStop>
+    requires { length pairs.now ≡ length lines.now }
+    ensures loaded { IfOk result (λ t. AddsPairs (T.lists target) pairs.now (T.lists t)) }
+    ensures stopped { IfErr result (IsWaitingStop (T.lists target) pairs.now lines.now) }
+{
+    let mut target = target;
+    match target.add_pairs(pairs) {
+        Ok(()) => Ok(target),
         Err(PairsStop::Memory) => Err(ReadStop::Memory),
         Err(PairsStop::Refused { at, refusal }) => Err(ReadStop::Edit {
             line: lines[at],

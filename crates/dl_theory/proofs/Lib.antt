@@ -1,4 +1,5 @@
 pub mod Places
+pub mod RulePlaces
 pub mod Numbers
 pub mod Loads
 pub mod Within

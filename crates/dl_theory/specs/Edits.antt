@@ -60,27 +60,31 @@ IsRefused T (AddPair p) PairsFull =
 IsRefused T (DropPair p) NoPair = ¬ Contains T.pairs p
 IsRefused T _ _ = ⊥
 
--- a label of a pair is missing
-abbrev pub IsMissing : TheoryLists → Pair → EditRefusal → Type 0
-IsMissing T p (NoLabel label) =
-    ((label ≡ p.upper) × (¬ HasLabel T p.upper)) ⊎ ((label ≡ p.lower) × HasLabel T p.upper × (¬ HasLabel T p.lower))
-IsMissing T p _ = ⊥
+-- a label of a pair is missing among these
+abbrev pub IsMissing : List (List ℕ) → Pair → EditRefusal → Type 0
+IsMissing names p (NoLabel label) =
+    ((label ≡ p.upper) × (¬ Contains names p.upper)) ⊎ ((label ≡ p.lower) × Contains names p.upper × (¬ Contains names p.lower))
+IsMissing names p _ = ⊥
+
+-- both labels of a pair are among these
+abbrev pub AreThere : List (List ℕ) → Pair → Type 0
+AreThere names p = Contains names p.upper × Contains names p.lower
 
 -- both labels of a pair are those of rules
 abbrev pub HasBoth : TheoryLists → Pair → Type 0
-HasBoth T p = HasLabel T p.upper × HasLabel T p.lower
+HasBoth T p = AreThere (labels T) p
 
 -- the pairs before a place have their labels, and the one at it misses one
-pub record MissesAt (T : TheoryLists) (pairs : List Pair) (at : ℕ) (refusal : EditRefusal) : Type 0 where
+pub record MissesAt (names : List (List ℕ)) (pairs : List Pair) (at : ℕ) (refusal : EditRefusal) : Type 0 where
   pub pair : Pair
   pub stands : slice_get pairs at ≡ Some pair
-  pub front : All (HasBoth T) (take at pairs)
-  pub missing : IsMissing T pair refusal
+  pub front : All (AreThere names) (take at pairs)
+  pub missing : IsMissing names pair refusal
 
 -- the pairs before the first that misses a label
-abbrev pub IsFront : TheoryLists → List Pair → ℕ → Option EditRefusal → Type 0
-IsFront T pairs end None = All (HasBoth T) pairs × (end ≡ length pairs)
-IsFront T pairs end (Some refusal) = MissesAt T pairs end refusal
+abbrev pub IsFront : List (List ℕ) → List Pair → ℕ → Option EditRefusal → Type 0
+IsFront names pairs end None = All (AreThere names) pairs × (end ≡ length pairs)
+IsFront names pairs end (Some refusal) = MissesAt names pairs end refusal
 
 -- what is allowed in place of an acceptance: a cause, or want of memory
 abbrev pub IsStopped : TheoryLists → Edit → EditStop → Type 0

@@ -11,9 +11,11 @@
 
 mod answer;
 mod edit;
+mod labelled;
 mod labels;
 mod laws;
 mod lists;
+mod loading;
 mod rule;
 mod rules;
 mod superiority;
@@ -25,5 +27,7 @@ pub use answer::{Answer, Certificate, Verdict};
 pub use edit::{Edit, EditRefusal, EditStop, PairsStop};
 pub use laws::{gaps_hold, is_coherent, is_consistent, is_inclusive, table_is_least};
 pub use lists::{Body, Path, TaggedList};
+pub use loading::Loading;
 pub use rule::{Kind, Pair, Rule};
+pub use superiority::Superiority;
 pub use theory::Theory;

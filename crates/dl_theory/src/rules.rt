@@ -5,7 +5,7 @@ ghost use Rattle.std.specs.Option.{option_copied};
 ghost use Rattle.std.specs.Str.{bytes_eq};
 ghost use Rattle.dl_base.specs.Paths.{IsDistinct};
 
-use crate::labels::{holds_label, insert_label, place_near, place_of};
+use crate::labels::{holds_label, insert_label, place_of};
 use crate::rule::Rule;
 use dl_lit::{Memory, Name, NameSet, name_set};
 use std::alloc::Global;
@@ -90,13 +90,11 @@ impl Rules {
         place_of(&self.labels, label)
     }
 
-    /// The same, where one place is tried first, which may be any number.
-    pub fn place_near(&self, label: &Name, hint: usize) -> Option<usize>
-        ensures within { IfSome result (λ at. at < length self.now) }
-        ensures there { IfSome result (λ at. slice_index_or (map (λ r. r.label) self.now) at [] ≡ label.now) }
-        ensures absent { IfNone result (¬ Contains (map (λ r. r.label) self.now) label.now) }
+    /// The labels, in order.
+    pub fn labels(&self) -> &NameSet<Name>
+        ensures { result.now.keys ≡ map (λ r. r.label) self.now }
     {
-        place_near(&self.labels, label, hint)
+        &self.labels
     }
 
     pub fn len(&self) -> usize

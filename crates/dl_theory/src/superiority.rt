@@ -1,16 +1,21 @@
 //! Pairs of labels without cycles, over an order of numbers.
 
-ghost use Rattle.std.specs.Prelude.{◌≡◌, [], ◌∷◌, ◌++◌, ◌↔◌, ◌<◌, ◌≤◌, ◌||◌, ◌-◌, ℕ, List, IsTrue, OnOk, OnErr, IfOk, IfErr, Contains, All, filter, not, map, length, slice_get};
+ghost use Rattle.std.specs.Prelude.{◌≡◌, [], ◌∷◌, ◌++◌, ◌↔◌, ◌<◌, ◌≤◌, ◌||◌, ◌-◌, ℕ, List, IsTrue, OnOk, OnErr, IfOk, IfErr, IfSome, IfNone, Contains, All, filter, not, map, length, slice_get};
 ghost use Rattle.std.specs.Option.{option_copied};
 ghost use Rattle.std.specs.Str.{bytes_eq};
 ghost use Rattle.dl_base.specs.Paths.{IsDistinct, HasCycle};
-ghost use Rattle.dl_theory.specs.Lists.{IsAbove};
+ghost use Rattle.dl_theory.specs.Edits.{after_edits, additions, AreAccepted, IsPairsStop};
+ghost use Rattle.dl_theory.specs.Lists as lists;
+ghost use Rattle.dl_theory.specs.Lists.{TheoryLists, IsAbove, IsWellFormed};
+ghost use Rattle.dl_theory.specs.PairRules.{AreRulesOf};
 ghost use Rattle.dl_sup.specs.Links.{names_item};
 ghost use Rattle.dl_sup.specs.Adding.{ClosesCycle};
 ghost use Rattle.dl_theory.specs.Pairs.{pair_eq, Closes, label_at, IsWithin, IsNumbered, IsNumberOf};
 ghost use Rattle.dl_theory.specs.Superiority.{IsPairStop, IsLinkStop, AddsAll, OrdersAll, moved_back};
-ghost use Rattle.std.specs.Option.{option_map_or, option_map, IfSome};
+ghost use Rattle.std.specs.Option.{option_map_or, option_map};
 
+use crate::edit::PairsStop;
+use crate::labelled::{labelled_front, narrow, outcome_of, places_near};
 use crate::labels::{place_of, stands_at};
 use crate::lists::Path;
 use crate::rule::Pair;
@@ -64,11 +69,11 @@ impl From<Memory> for PairStop {
     }
 }
 
-/// A list of pairs. Each label that ever stood in a pair has its place among the items,
-/// and the order has, for each pair, the places of its labels. So the order tells
-/// whether a pair is in the list.
+/// A list of pairs without cycles, for a theory or for whoever keeps the labels of its rules.
+// Each label that ever stood in a pair has its place among the items, and the order has, for each pair, the places of its labels. So the
+// order tells whether a pair is in the list.
 #[derive(Drop)]
-pub(crate) struct Superiority {
+pub struct Superiority {
     pairs: Vec<Pair>,
     /// For each pair its hint, a wrong one, or none.
     hints: Vec<PairHint>,
@@ -90,6 +95,7 @@ impl Model for Superiority {
 }
 
 impl Superiority {
+    /// The empty list.
     pub fn make(alloc: Global) -> Superiority
         ensures { result ≡ [] }
     {
@@ -102,7 +108,7 @@ impl Superiority {
     }
 
     /// Adds a pair at the end, or says why not.
-    pub fn add(&mut self, pair: Pair) -> Result<(), PairStop>
+    pub(crate) fn add(&mut self, pair: Pair) -> Result<(), PairStop>
         requires { ¬ Contains self.old pair }
         ensures accepted { OnOk result (¬ Closes self.old pair) }
         ensures room { OnOk result (length self.old < 1000000) }
@@ -123,7 +129,7 @@ impl Superiority {
     }
 
     /// The pairs of a list, or those before the first that is refused.
-    pub fn load(
+    pub(crate) fn load(
         alloc: Global,
         pairs: &[Pair],
         hints: Vec<PairHint>,
@@ -148,7 +154,7 @@ impl Superiority {
     }
 
     /// Adds pairs at the end, or those before the first that is refused.
-    pub fn add_all(
+    pub(crate) fn add_all(
         &mut self,
         pairs: &[Pair],
         hints: Vec<PairHint>,
@@ -187,7 +193,7 @@ impl Superiority {
     }
 
     /// The same, where a pair that finds the list full is refused.
-    pub fn add_within_limit(
+    pub(crate) fn add_within_limit(
         &mut self,
         pairs: &[Pair],
         hints: Vec<PairHint>,
@@ -212,8 +218,27 @@ impl Superiority {
         Ok(Some(PairRefused { at: room, cause }))
     }
 
+    /// Adds pairs to those of a theory whose rules have these labels, as adding them one by one, in order, up to the first that is refused.
+    pub fn add_labelled(&mut self, labels: &NameSet<Name>, pairs: &[Pair]) -> Result<(), PairsStop>
+        requires distinct { IsDistinct self.old }
+        requires acyclic { ¬ HasCycle (IsAbove self.old) }
+        requires few { length self.old ≤ 1000000 }
+        ensures accepted { (T : TheoryLists) → IsWellFormed T → lists.labels T ≡ labels.now.keys → T.pairs ≡ self.old
+            → OnOk result (AreAccepted T (additions pairs.now)) }
+        ensures changed { (T : TheoryLists) → IsWellFormed T → lists.labels T ≡ labels.now.keys → T.pairs ≡ self.old
+            → OnOk result (self.new ≡ (after_edits T (additions pairs.now)).pairs) }
+        ensures stopped { (T : TheoryLists) → IsWellFormed T → lists.labels T ≡ labels.now.keys → T.pairs ≡ self.old
+            → IfErr result (IsPairsStop T (record T { pairs = self.new }) pairs.now) }
+    {
+        let alloc = *self.pairs.allocator();
+        let (hints, missing) = labelled_front(alloc, labels, pairs)?;
+        let end = hints.len();
+        let refused = self.add_within_limit(&pairs[..end], hints)?;
+        outcome_of(refused, missing, end)
+    }
+
     /// An equal list.
-    pub fn copy(&self) -> Result<Superiority, Memory>
+    pub(crate) fn copy(&self) -> Result<Superiority, Memory>
         requires distinct { IsDistinct self.now }
         requires acyclic { ¬ HasCycle (IsAbove self.now) }
         requires few { length self.now ≤ 1000000 }
@@ -229,7 +254,7 @@ impl Superiority {
     }
 
     /// Removes a pair; tells whether it was there.
-    pub fn drop_pair(&mut self, pair: &Pair) -> bool
+    pub(crate) fn drop_pair(&mut self, pair: &Pair) -> bool
         requires { IsDistinct self.old }
         ensures found { IsTrue result ↔ Contains self.old pair.now }
         ensures dropped { self.new ≡ filter (λ p. not (pair_eq p pair.now)) self.old }
@@ -238,7 +263,7 @@ impl Superiority {
     }
 
     /// Removes the pairs that name a label.
-    pub fn drop_label(&mut self, label: &Name)
+    pub(crate) fn drop_label(&mut self, label: &Name)
         ensures { self.new ≡ filter (λ p. not (bytes_eq p.upper label.now || bytes_eq p.lower label.now)) self.old }
     {
         if let Some(item) = place_of(&self.items, label) {
@@ -266,23 +291,38 @@ impl Superiority {
         }
     }
 
+    /// How many pairs there are.
     pub fn len(&self) -> usize
         ensures { result ≡ length self.now }
     {
         self.pairs.len()
     }
 
+    /// The pair at a place; `None` exactly past the end.
     pub fn get(&self, at: usize) -> Option<&Pair>
         ensures { option_copied result ≡ slice_get self.now at }
     {
         self.pairs.get(at)
     }
 
-    /// Where the rules of the pair at a place are tried first.
-    pub fn hint(&self, at: usize) -> PairHint {
-        hint_at(self.hints.as_slice(), at)
+    /// The places of the upper and the lower rule of the pair at a place, in a theory whose rules have these labels; `None` exactly past
+    /// the end.
+    pub fn rules_of(&self, labels: &NameSet<Name>, at: usize) -> Option<(usize, usize)>
+        ensures rules { (T : TheoryLists) → IsWellFormed T → lists.labels T ≡ labels.now.keys → T.pairs ≡ self.now
+            → IfSome result (λ r. AreRulesOf T at r.0 r.1) }
+        ensures past { (T : TheoryLists) → IsWellFormed T → lists.labels T ≡ labels.now.keys → T.pairs ≡ self.now
+            → IfNone result (length self.now ≤ at) }
+    {
+        match self.get(at) {
+            None => None,
+            Some(pair) => {
+                let hint = hint_at(self.hints.as_slice(), at);
+                places_near(labels, pair, hint)
+            }
+        }
     }
 
+    /// The pairs, in order.
     pub fn as_slice(&self) -> &[Pair]
         ensures { result.now ≡ self.now }
     {
@@ -330,7 +370,7 @@ fn note(known: &mut Vec<u32>, place: u32, number: usize) -> Result<(), Memory> {
     if known.len() <= place {
         known.resize(place + 1, 0)?;
     }
-    known[place] = u32::try_from(number).unwrap_or(0);
+    known[place] = narrow(number);
     Ok(())
 }
 

@@ -1,15 +1,14 @@
 //! Theories under edits.
 
-ghost use Rattle.std.specs.Prelude.{◌≡◌, ◌<◌, length, slice_get, slice_index_or, OnOk, OnErr, IfOk, IfErr, IfSome, IfNone, MatchOption, ◌≤◌, ◌↔◌, IsTrue, Contains, ◌++◌, ◌∷◌, [], filter, not, false, if◌then◌else◌};
+ghost use Rattle.std.specs.Prelude.{◌≡◌, ◌<◌, length, slice_get, slice_index_or, OnOk, OnErr, IfOk, IfErr, IfSome, IfNone, ◌≤◌, ◌↔◌, IsTrue, Contains, ◌++◌, ◌∷◌, [], filter, not, false, if◌then◌else◌};
 ghost use Rattle.dl_base.specs.Paths.{IsDistinct};
 ghost use Rattle.dl_lit.specs.Literal.{literal_eq};
-ghost use Rattle.dl_theory.specs.Refusals.{refusal_of, outcome_of};
 ghost use Rattle.std.specs.Option.{option_copied};
 
 use crate::edit::{Edit, EditRefusal, EditStop, PairsStop};
 use crate::rule::{Pair, Rule};
 use crate::rules::Rules;
-use crate::superiority::{PairCause, PairHint, PairRefused, PairStop, Superiority};
+use crate::superiority::{PairStop, Superiority};
 use dl_lit::{Literal, Memory, Name, NameSet, name_set};
 use std::alloc::Global;
 use std::marker::Model;
@@ -38,7 +37,7 @@ impl Model for Theory {
 
 impl Theory {
     ghost use Rattle.dl_theory.specs.Lists.{labels, no_lists, IsAbove, IsWellFormed};
-    ghost use Rattle.dl_theory.specs.Edits.{after_edit, after_edits, additions, AreAccepted, IsAccepted, IsStopped, IsPairsStop, HasLabel, HasBoth, IsMissing, IsFront};
+    ghost use Rattle.dl_theory.specs.Edits.{after_edit, after_edits, additions, AreAccepted, IsAccepted, IsStopped, IsPairsStop, HasLabel};
     ghost use Rattle.dl_theory.specs.PairRules.{AreRulesOf};
 
     /// The empty theory.
@@ -108,6 +107,22 @@ impl Theory {
         self.rules.as_slice()
     }
 
+    /// The labels of the rules, in order.
+    pub fn labels(&self) -> &NameSet<Name>
+        ensures value { result.now.keys ≡ labels self.now }
+        ensures well_formed { IsWellFormed self.now }
+    {
+        self.rules.labels()
+    }
+
+    /// The superiority among the rules.
+    pub fn superiority(&self) -> &Superiority
+        ensures value { result.now ≡ self.now.pairs }
+        ensures well_formed { IsWellFormed self.now }
+    {
+        &self.pairs
+    }
+
     /// The pairs, in order.
     pub fn pairs(&self) -> &[Pair]
         ensures value { result.now ≡ self.now.pairs }
@@ -130,15 +145,7 @@ impl Theory {
         ensures past { IfNone result (length self.now.pairs ≤ at) }
         ensures well_formed { IsWellFormed self.now }
     {
-        match self.pairs.get(at) {
-            None => None,
-            Some(pair) => {
-                let hint = self.pairs.hint(at);
-                let upper = self.place_near(&pair.upper, hint.upper);
-                let lower = self.place_near(&pair.lower, hint.lower);
-                Some((upper, lower))
-            }
-        }
+        self.pairs.rules_of(self.rules.labels(), at)
     }
 
     /// The place of the rule with a label; `None` exactly where no rule has it.
@@ -211,10 +218,7 @@ impl Theory {
         ensures changed { OnOk result (self.new ≡ after_edits self.old (additions pairs.now)) }
         ensures stopped { IfErr result (IsPairsStop self.old self.new pairs.now) }
     {
-        let (hints, missing) = self.labelled_front(pairs)?;
-        let end = hints.len();
-        let refused = self.pairs.add_within_limit(&pairs[..end], hints)?;
-        outcome_of(refused, missing, end)
+        self.pairs.add_labelled(self.rules.labels(), pairs)
     }
 
     /// Removes a fact that is there. Takes no memory.
@@ -256,60 +260,8 @@ impl Theory {
         })
     }
 
-    /// The place of the rule with a label that is there. One place is tried first.
-    fn place_near(&self, label: &Name, hint: u32) -> usize
-        requires { HasLabel self.now label.now }
-        ensures within { result < length self.now.rules }
-        ensures there { slice_index_or (labels self.now) result [] ≡ label.now }
-    {
-        match self.rules.place_near(label, hint as usize) {
-            None => unreachable!(),
-            Some(at) => at,
-        }
-    }
-
-    /// The places of the rules of the pairs before the first that misses a label, and what that one misses.
-    fn labelled_front(&self, pairs: &[Pair]) -> Result<(Vec<PairHint>, Option<EditRefusal>), Memory>
-        ensures { IfOk result (λ r. IsFront self.now pairs.now (length r.0.items) r.1) }
-    {
-        let mut hints = Vec::with_capacity(*self.facts.allocator(), pairs.len())?;
-        for pair in pairs {
-            match self.hint_of(pair) {
-                None => return Ok((hints, Some(self.missing_label(pair)?))),
-                Some(hint) => hints.push(hint)?,
-            }
-        }
-        Ok((hints, None))
-    }
-
-    /// The places of both rules of a pair, if both are there.
-    fn hint_of(&self, pair: &Pair) -> Option<PairHint>
-        ensures { MatchOption result (¬ HasBoth self.now pair.now) (λ _. HasBoth self.now pair.now) }
-    {
-        match self.rules.place(&pair.upper) {
-            None => None,
-            Some(upper) => match self.rules.place(&pair.lower) {
-                None => None,
-                Some(lower) => Some(PairHint {
-                    upper: upper as u32,
-                    lower: lower as u32,
-                }),
-            },
-        }
-    }
-
-    fn missing_label(&self, pair: &Pair) -> Result<EditRefusal, Memory>
-        requires { ¬ HasBoth self.now pair.now }
-        ensures { IfOk result (IsMissing self.now pair.now) }
-    {
-        if self.rules.has(&pair.upper) {
-            return Ok(EditRefusal::NoLabel(pair.lower.copy()?));
-        }
-        Ok(EditRefusal::NoLabel(pair.upper.copy()?))
-    }
-
     #[inline(always)]
-    fn add_rule(&mut self, rule: Rule) -> Result<(), EditStop>
+    pub(crate) fn add_rule(&mut self, rule: Rule) -> Result<(), EditStop>
         ensures accepted { OnOk result (IsAccepted self.old (Edit.AddRule rule)) }
         ensures changed { OnOk result (self.new ≡ after_edit self.old (Edit.AddRule rule)) }
         ensures stopped { IfErr result (IsStopped self.old (Edit.AddRule rule)) }
@@ -339,7 +291,7 @@ impl Theory {
     }
 
     #[inline(always)]
-    fn add_fact(&mut self, fact: Literal) -> Result<(), EditStop>
+    pub(crate) fn add_fact(&mut self, fact: Literal) -> Result<(), EditStop>
         ensures accepted { OnOk result (IsAccepted self.old (Edit.AddFact fact)) }
         ensures changed { OnOk result (self.new ≡ after_edit self.old (Edit.AddFact fact)) }
         ensures stopped { IfErr result (IsStopped self.old (Edit.AddFact fact)) }
@@ -413,35 +365,6 @@ impl Theory {
         }
         self.remove_pair(pair);
         Ok(())
-    }
-}
-
-fn refusal_of(cause: PairCause) -> EditRefusal
-    ensures { result ≡ refusal_of cause }
-{
-    match cause {
-        PairCause::There => EditRefusal::PairThere,
-        PairCause::Cycle(path) => EditRefusal::Cycle(path),
-        PairCause::Full => EditRefusal::PairsFull,
-    }
-}
-
-fn outcome_of(
-    refused: Option<PairRefused>,
-    missing: Option<EditRefusal>,
-    end: usize,
-) -> Result<(), PairsStop>
-    ensures { result ≡ outcome_of refused missing end }
-{
-    match refused {
-        Some(refused) => Err(PairsStop::Refused {
-            at: refused.at,
-            refusal: refusal_of(refused.cause),
-        }),
-        None => match missing {
-            Some(refusal) => Err(PairsStop::Refused { at: end, refusal }),
-            None => Ok(()),
-        },
     }
 }
 

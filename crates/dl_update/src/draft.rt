@@ -65,7 +65,7 @@ impl Draft {
         let _rules = theory.rules_len();
         let net = Net::of(alloc, theory.copy()?)?;
         let mut works = Works::make(alloc);
-        let marks = all_marks(alloc, &net, &mut works, steps)?;
+        let marks = all_marks(alloc, &net.graph(), &mut works, steps)?;
         Ok(Draft {
             alloc,
             net,
@@ -113,7 +113,13 @@ impl Draft {
         own_names(&mut self.marks, names)?;
         self.net.commit(ready);
         clear_names(&mut self.marks, names, steps);
-        fill_all(&self.net, &region, &mut self.works, &mut self.marks, steps);
+        fill_all(
+            &self.net.graph(),
+            &region,
+            &mut self.works,
+            &mut self.marks,
+            steps,
+        );
         Ok(())
     }
 

@@ -1,4 +1,4 @@
-//! Right marks for a whole net, and a theory whose marks are kept under edits.
+//! Right marks for a whole theory by numbers, and a theory whose marks are kept under edits.
 //!
 //! Marks are right where a mark stands exactly if its tagged literal follows from the theory. They begin with no mark at any
 //! number, and the region of all numbers is filled, family after family: first the definite one, then those that stand on it.

@@ -1,4 +1,4 @@
-//! Marks of all that follows in a net's theory.
+//! Marks of all that follows in a theory by numbers.
 
 ghost use Rattle.std.specs.Prelude.{◌≡◌, ◌≤◌, IfOk, OnOk, length};
 ghost use Rattle.dl_lit.specs.declared.literal.Family.TheVariants as family;
@@ -16,7 +16,7 @@ use dl_block::{BlockWork, fill_block};
 use dl_definite::{DefiniteWork, fill_definite};
 use dl_lit::Family;
 use dl_marks::{Marks, Steps};
-use dl_net::{Net, Region};
+use dl_net::{Graph, Region};
 use dl_prop::{PropWork, fill_prop};
 use std::alloc::Global;
 use std::sync::ledger::Ledger;
@@ -24,7 +24,7 @@ use std::sync::ledger::Ledger;
 /// Marks that are right in the definite family, and of which no other stands.
 fn begun<L: Ledger>(
     alloc: Global,
-    net: &Net,
+    net: &Graph<'_>,
     region: &Region,
     steps: &mut Steps<L>,
 ) -> Result<Marks, Memory>
@@ -45,7 +45,7 @@ fn begun<L: Ledger>(
 /// Sets the marks of the blocking family.
 fn fill_blocking<L: Ledger>(
     alloc: Global,
-    net: &Net,
+    net: &Graph<'_>,
     region: &Region,
     marks: &mut Marks,
     steps: &mut Steps<L>,
@@ -63,7 +63,7 @@ fn fill_blocking<L: Ledger>(
 /// Sets the marks of the families propagating and support.
 fn fill_pair<L: Ledger>(
     alloc: Global,
-    net: &Net,
+    net: &Graph<'_>,
     region: &Region,
     marks: &mut Marks,
     steps: &mut Steps<L>,
@@ -82,7 +82,7 @@ fn fill_pair<L: Ledger>(
 /// where there is none for the marks or for the fills.
 pub fn family_marks<L: Ledger>(
     alloc: Global,
-    net: &Net,
+    net: &Graph<'_>,
     family: Family,
     steps: &mut Steps<L>,
 ) -> Result<Marks, Memory>
@@ -100,9 +100,9 @@ pub fn family_marks<L: Ledger>(
     Ok(marks)
 }
 
-/// Makes the marks of a net right where none stands at its names. Takes no memory.
+/// Makes the marks of a graph right where none stands at its names. Takes no memory.
 pub fn fill_all<L: Ledger>(
-    net: &Net,
+    net: &Graph<'_>,
     region: &Region,
     works: &mut Works,
     marks: &mut Marks,
@@ -123,7 +123,7 @@ pub fn fill_all<L: Ledger>(
 /// the fills.
 pub fn all_marks<L: Ledger>(
     alloc: Global,
-    net: &Net,
+    net: &Graph<'_>,
     works: &mut Works,
     steps: &mut Steps<L>,
 ) -> Result<Marks, Memory>

@@ -278,7 +278,7 @@ fn expect_family<L: Ledger>(
 ) {
     let (family, texts) = marked;
     expect_marks(rt, alloc, draft.net(), draft.marks(), texts);
-    let alone = family_marks(alloc, draft.net(), *family, steps).expect(rt, "room");
+    let alone = family_marks(alloc, &draft.net().graph(), *family, steps).expect(rt, "room");
     expect_marks(rt, alloc, draft.net(), &alone, texts);
 }
 

@@ -1,4 +1,5 @@
 use Rattle.std.proofs.Common.{subst}
+use Rattle.dl_net.specs.Numbers.{NetLists}
 use Rattle.ddl.specs.declared.theory_file.Loaded.{Loaded}
 use Rattle.ddl.specs.Theories.{IsLoaded}
 use Rattle.ddl.specs.Words.{Conclude}
@@ -7,10 +8,10 @@ use Rattle.ddl.proofs.run.conclude.Goals as goal
 
 pub returns-in_ok-concluded-in-Theory-clause-shown : goal.returns-in_ok-concluded-in-Theory-clause-shown
 returns-in_ok-concluded-in-Theory-clause-shown c = λ holds file gives.
-    concluded c.args.family file gives.0 c.in-Theory.theory c.in_ok-concluded-in-Theory.concluded gives.1
-    (subst (λ (x : Loaded). IsLoaded gives.0 x) c.in-Theory.is gives.2) c.in_ok-concluded-in-Theory.ensures
+    concluded c.args.family file gives.0 c.in-Theory.theory.theory c.in_ok-concluded-in-Theory.concluded gives.1
+    (subst (λ (x : Loaded NetLists). IsLoaded (λ (N : NetLists). N.theory) gives.0 x) c.in-Theory.is gives.2) c.in_ok-concluded-in-Theory.ensures
 
 pub returns-in-Refused-clause-shown : goal.returns-in-Refused-clause-shown
 returns-in-Refused-clause-shown c = λ holds file gives.
     refused (Conclude c.args.family file) gives.0 c.in-Refused.refusal gives.1
-    (subst (λ (x : Loaded). IsLoaded gives.0 x) c.in-Refused.is gives.2)
+    (subst (λ (x : Loaded NetLists). IsLoaded (λ (N : NetLists). N.theory) gives.0 x) c.in-Refused.is gives.2)

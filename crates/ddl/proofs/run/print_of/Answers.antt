@@ -1,4 +1,5 @@
 use Rattle.std.proofs.Common.{subst}
+use Rattle.dl_theory.specs.Lists.{TheoryLists}
 use Rattle.ddl.specs.declared.theory_file.Loaded.{Loaded}
 use Rattle.ddl.specs.Theories.{IsLoaded}
 use Rattle.ddl.specs.Words.{Print}
@@ -7,9 +8,9 @@ use Rattle.ddl.proofs.run.print_of.Goals as goal
 
 pub returns-in-Theory-clause-shown : goal.returns-in-Theory-clause-shown
 returns-in-Theory-clause-shown c = λ holds file gives.
-    printed file gives.0 c.in-Theory.theory gives.1 (subst (λ (x : Loaded). IsLoaded gives.0 x) c.in-Theory.is gives.2)
+    printed file gives.0 c.in-Theory.theory gives.1 (subst (λ (x : Loaded TheoryLists). IsLoaded (λ (T : TheoryLists). T) gives.0 x) c.in-Theory.is gives.2)
 
 pub returns-in-Refused-clause-shown : goal.returns-in-Refused-clause-shown
 returns-in-Refused-clause-shown c = λ holds file gives.
     refused (Print file) gives.0 c.in-Refused.refusal gives.1
-    (subst (λ (x : Loaded). IsLoaded gives.0 x) c.in-Refused.is gives.2)
+    (subst (λ (x : Loaded TheoryLists). IsLoaded (λ (T : TheoryLists). T) gives.0 x) c.in-Refused.is gives.2)

@@ -18,30 +18,35 @@ labels_of T at upper lower p h stands =
     let same : h.pair ≡ p = one_pair h.pair p (slice_get T.pairs at) h.stands stands in
     (h.upper_label ∙ ap (λ (q : Pair). q.upper) same, h.lower_label ∙ ap (λ (q : Pair). q.lower) same)
 
+found_rules : (T : TheoryLists) (at : ℕ) (o : Option (ℕ × ℕ)) → IfSome o (λ r. AreRulesOf T at r.0 r.1) → (upper lower : ℕ) → o ≡ Some (upper, lower)
+    → AreRulesOf T at upper lower
+found_rules T at o h upper lower is = subst (λ (p : Option (ℕ × ℕ)). IfSome p (λ r. AreRulesOf T at r.0 r.1)) is h
+
 pub meet-requires-clause-few : goal.meet-requires-clause-few
-meet-requires-clause-few c =
-    let T : TheoryLists = c.args.theory.now in
+meet-requires-clause-few g c =
+    let T : TheoryLists = g.theory in
     let ls : List Literal = c.args.names.now.literals in
     let lines : List Line = c.args.index.now.lines in
-    head_within T ls lines c.requires.distinct c.requires.paired c.requires.named c.requires.lines c.in-Some.upper c.in-Some.ensures.rules.upper_within
+    let found = found_rules g.theory c.args.at c.rules_of.result (c.rules_of.ensures.rules g.theory c.requires.0 c.requires.1.0 c.requires.1.1.0) c.in-Some.upper c.in-Some.lower c.in-Some.is in
+    head_within T ls lines c.requires.1.1.1.0 c.requires.1.1.1.1.0 c.requires.1.1.1.1.1.0 c.requires.1.1.1.1.1.1.0 c.in-Some.upper found.upper_within
 
 pub returns-then-not-meet-clause-lowers : goal.returns-then-not-meet-clause-lowers
-returns-then-not-meet-clause-lowers c = λ p stands F e.
-    let T : TheoryLists = c.args.theory.now in
+returns-then-not-meet-clause-lowers g c = λ p stands F e.
+    let T : TheoryLists = g.theory in
     let ls : List Literal = c.args.names.now.literals in
     let lines : List Line = c.args.index.now.lines in
-    let found = c.in-Some.ensures.rules in
+    let found = found_rules g.theory c.args.at c.rules_of.result (c.rules_of.ensures.rules g.theory c.requires.0 c.requires.1.0 c.requires.1.1.0) c.in-Some.upper c.in-Some.lower c.in-Some.is in
     let named = labels_of T c.args.at c.in-Some.upper c.in-Some.lower p found stands in
-    e ∙ lowers_none T ls lines c.requires.distinct c.requires.paired c.requires.named c.requires.lines c.pair_rules.ensures.well_formed.labels_distinct p
+    e ∙ lowers_none T ls lines c.requires.1.1.1.0 c.requires.1.1.1.1.0 c.requires.1.1.1.1.1.0 c.requires.1.1.1.1.1.1.0 c.requires.0.labels_distinct p
     c.in-Some.upper c.in-Some.lower found.upper_within found.lower_within named.0 named.1
     c.meet.result c.meet.ensures c.if-not-meet.true F
 
 pub returns-clause-lowers : goal.returns-clause-lowers
-returns-clause-lowers c = λ p stands F e.
-    let T : TheoryLists = c.args.theory.now in
+returns-clause-lowers g c = λ p stands F e.
+    let T : TheoryLists = g.theory in
     let ls : List Literal = c.args.names.now.literals in
     let lines : List Line = c.args.index.now.lines in
-    let found = c.in-Some.ensures.rules in
+    let found = found_rules g.theory c.args.at c.rules_of.result (c.rules_of.ensures.rules g.theory c.requires.0 c.requires.1.0 c.requires.1.1.0) c.in-Some.upper c.in-Some.lower c.in-Some.is in
     let named = labels_of T c.args.at c.in-Some.upper c.in-Some.lower p found stands in
     let put =
     subst (λ (o : Option Meeting). IfSome o (λ m. c.put_link.new.self.lowers ≡ set c.reserve_link.new.self.lowers m.upper (list_of c.reserve_link.new.self.lowers m.upper ++ m.lower ∷ [])))
@@ -49,27 +54,27 @@ returns-clause-lowers c = λ p stands F e.
     put
     ∙ ap (λ (xs : List (List ℕ)). set xs c.in-Some.upper (list_of xs c.in-Some.upper ++ c.in-Some.lower ∷ []))
     (c.reserve_link.ensures.kept.lowers ∙ e)
-    ∙ lowers_joined T ls lines c.requires.distinct c.requires.paired c.requires.named c.requires.lines c.pair_rules.ensures.well_formed.labels_distinct p
+    ∙ lowers_joined T ls lines c.requires.1.1.1.0 c.requires.1.1.1.1.0 c.requires.1.1.1.1.1.0 c.requires.1.1.1.1.1.1.0 c.requires.0.labels_distinct p
     c.in-Some.upper c.in-Some.lower found.upper_within found.lower_within named.0 named.1
     c.meet.result c.meet.ensures c.if-not-meet.false F
 
 pub returns-then-not-meet-clause-uppers : goal.returns-then-not-meet-clause-uppers
-returns-then-not-meet-clause-uppers c = λ p stands F e.
-    let T : TheoryLists = c.args.theory.now in
+returns-then-not-meet-clause-uppers g c = λ p stands F e.
+    let T : TheoryLists = g.theory in
     let ls : List Literal = c.args.names.now.literals in
     let lines : List Line = c.args.index.now.lines in
-    let found = c.in-Some.ensures.rules in
+    let found = found_rules g.theory c.args.at c.rules_of.result (c.rules_of.ensures.rules g.theory c.requires.0 c.requires.1.0 c.requires.1.1.0) c.in-Some.upper c.in-Some.lower c.in-Some.is in
     let named = labels_of T c.args.at c.in-Some.upper c.in-Some.lower p found stands in
-    e ∙ uppers_none T ls lines c.requires.distinct c.requires.paired c.requires.named c.requires.lines c.pair_rules.ensures.well_formed.labels_distinct p
+    e ∙ uppers_none T ls lines c.requires.1.1.1.0 c.requires.1.1.1.1.0 c.requires.1.1.1.1.1.0 c.requires.1.1.1.1.1.1.0 c.requires.0.labels_distinct p
     c.in-Some.upper c.in-Some.lower found.upper_within found.lower_within named.0 named.1
     c.meet.result c.meet.ensures c.if-not-meet.true F
 
 pub returns-clause-uppers : goal.returns-clause-uppers
-returns-clause-uppers c = λ p stands F e.
-    let T : TheoryLists = c.args.theory.now in
+returns-clause-uppers g c = λ p stands F e.
+    let T : TheoryLists = g.theory in
     let ls : List Literal = c.args.names.now.literals in
     let lines : List Line = c.args.index.now.lines in
-    let found = c.in-Some.ensures.rules in
+    let found = found_rules g.theory c.args.at c.rules_of.result (c.rules_of.ensures.rules g.theory c.requires.0 c.requires.1.0 c.requires.1.1.0) c.in-Some.upper c.in-Some.lower c.in-Some.is in
     let named = labels_of T c.args.at c.in-Some.upper c.in-Some.lower p found stands in
     let put =
     subst (λ (o : Option Meeting). IfSome o (λ m. c.put_link.new.self.uppers ≡ set c.reserve_link.new.self.uppers m.lower (list_of c.reserve_link.new.self.uppers m.lower ++ m.upper ∷ [])))
@@ -77,6 +82,6 @@ returns-clause-uppers c = λ p stands F e.
     put
     ∙ ap (λ (xs : List (List ℕ)). set xs c.in-Some.lower (list_of xs c.in-Some.lower ++ c.in-Some.upper ∷ []))
     (c.reserve_link.ensures.kept.uppers ∙ e)
-    ∙ uppers_joined T ls lines c.requires.distinct c.requires.paired c.requires.named c.requires.lines c.pair_rules.ensures.well_formed.labels_distinct p
+    ∙ uppers_joined T ls lines c.requires.1.1.1.0 c.requires.1.1.1.1.0 c.requires.1.1.1.1.1.0 c.requires.1.1.1.1.1.1.0 c.requires.0.labels_distinct p
     c.in-Some.upper c.in-Some.lower found.upper_within found.lower_within named.0 named.1
     c.meet.result c.meet.ensures c.if-not-meet.false F

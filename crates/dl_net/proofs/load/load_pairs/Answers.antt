@@ -21,11 +21,11 @@ more_steps f pairs i rules lt =
     λ j. map (λ t. sym (ap (flat_map (λ q. f q t)) more ∙ flat_map-push (λ q. f q t) (take i pairs) p) j) rules
 
 pub loop-at-preserved : goal.loop-at-preserved
-loop-at-preserved c =
-    let T : TheoryLists = c.args.theory.now in
+loop-at-preserved g c =
+    let T : TheoryLists = g.theory in
     let i : ℕ = c.loop-at.at in
     let p : Pair = get_or T.pairs i no_pair in
-    let at : i < length T.pairs = subst (λ (n : ℕ). i < n) c.pairs_len-at-end.ensures.value c.loop-at-test.true in
+    let at : i < length T.pairs = subst (λ (n : ℕ). i < n) (c.len-at-end.ensures ∙ ap length (sym c.requires.1.1.0)) c.loop-at-test.true in
     let stands = slice_get-get_or T.pairs i no_pair at in
     record {
       lines = c.in_ok-load_pair.ensures.lines ∙ c.loop-at.invariant.lines;
@@ -37,17 +37,17 @@ loop-at-preserved c =
     }
 
 pub returns-clause-lowers : goal.returns-clause-lowers
-returns-clause-lowers c =
-    let T : TheoryLists = c.args.theory.now in
+returns-clause-lowers g c =
+    let T : TheoryLists = g.theory in
     c.loop-at.invariant.lowers
     ∙ ap (λ (ps : List Pair). map (λ t. flat_map (λ q. lower_step T q t) ps) T.rules)
     (take_all c.loop-at.at T.pairs
-    (subst (λ (n : ℕ). n ≤ c.loop-at.at) c.pairs_len-at-end.ensures.value c.loop-at-test.false))
+    (subst (λ (n : ℕ). n ≤ c.loop-at.at) (c.len-at-end.ensures ∙ ap length (sym c.requires.1.1.0)) c.loop-at-test.false))
 
 pub returns-clause-uppers : goal.returns-clause-uppers
-returns-clause-uppers c =
-    let T : TheoryLists = c.args.theory.now in
+returns-clause-uppers g c =
+    let T : TheoryLists = g.theory in
     c.loop-at.invariant.uppers
     ∙ ap (λ (ps : List Pair). map (λ t. flat_map (λ q. upper_step T q t) ps) T.rules)
     (take_all c.loop-at.at T.pairs
-    (subst (λ (n : ℕ). n ≤ c.loop-at.at) c.pairs_len-at-end.ensures.value c.loop-at-test.false))
+    (subst (λ (n : ℕ). n ≤ c.loop-at.at) (c.len-at-end.ensures ∙ ap length (sym c.requires.1.1.0)) c.loop-at-test.false))

@@ -1,18 +1,9 @@
-use Rattle.std.proofs.Common.{◌≡◌, ℕ, List, ap, subst, ◌∙◌}
+use Rattle.std.proofs.Common.{◌≡◌, subst}
 use Rattle.std.specs.Prelude.{slice_get}
-use Rattle.dl_lit.specs.declared.literal.Literal.{Literal}
 use Rattle.dl_net.specs.Rows.{places}
 use Rattle.dl_net.specs.Numbers.{NetLists, body_row}
-use Rattle.dl_net.specs.Named.{line_in}
-use Rattle.dl_net.specs.Lines.{Line, uses_row}
-use Rattle.dl_net.specs.KeptNet.{theory_of}
-use Rattle.dl_net.proofs.PlaceLemmas.{places-map}
 use Rattle.dl_net.proofs.net.Net.uses.Goals as goal
 
 pub returns : goal.returns
 returns c =
-    let ls : List Literal = c.self.inside.names.literals in
-    subst (λ (v : NetLists). c.uses_at.result ≡ slice_get (places (body_row v) v.theory.rules c.args.number) c.args.at) c.self.view_is
-    (c.uses_at.ensures
-    ∙ ap (λ (xs : List Line). slice_get (places uses_row xs c.args.number) c.args.at) c.self.invariant.tables.index.lines
-    ∙ ap (λ (xs : List ℕ). slice_get xs c.args.at) (places-map uses_row (line_in ls) (theory_of c.self.inside).rules 0 c.args.number))
+    subst (λ (N : NetLists). c.uses.result ≡ slice_get (places (body_row N) N.theory.rules c.args.number) c.args.at) c.graph.ensures c.uses.ensures

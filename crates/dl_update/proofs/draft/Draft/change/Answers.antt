@@ -7,7 +7,8 @@ use Rattle.dl_theory.specs.Lists.{TheoryLists}
 use Rattle.dl_marks.specs.Marks.{places}
 use Rattle.dl_fill.specs.Filled.{stands}
 use Rattle.dl_update.specs.Drafts.{GrowsBy}
-use Rattle.dl_update.specs.Unmarked.{IsFreshPast}
+use Rattle.dl_update.specs.Room.{HasRoom}
+use Rattle.dl_update.specs.Unmarked.{IsFreshPast, IsUnmarked, IsWhole}
 use Rattle.dl_update.proofs.Growth.{names_distinct, more_rules, right_moved, right_past}
 use Rattle.dl_update.proofs.Kept.{less_room}
 use Rattle.dl_update.proofs.draft.Draft.change.Goals as goal
@@ -82,12 +83,27 @@ fill_all-requires-clause-room g c =
     ) in
     let short : length c.commit.new.self.names ≤ c.in_ok-count.count =
     omega (arith, ap (λ (ls : List Literal). length ls) c.commit.ensures.names, c.in_ok-count.ensures.enough N.names by) in
-    less_room (c.rules_len.result + 1) c.in_ok-count.count (length T.rules) (length c.commit.new.self.names) c.reserve.new.self few short c.in_ok-reserve.ensures
+    subst (λ (M : NetLists). HasRoom (length M.theory.rules) (length M.names) c.reserve.new.self) (sym c.graph.ensures)
+    (less_room (c.rules_len.result + 1) c.in_ok-count.count (length T.rules) (length c.commit.new.self.names) c.reserve.new.self few short c.in_ok-reserve.ensures)
 
 pub fill_all-requires-clause-whole : goal.fill_all-requires-clause-whole
 fill_all-requires-clause-whole g c =
     let same : length c.commit.new.self.names ≡ length c.prepare-prepared.new.self.names = ap (λ (ls : List Literal). length ls) c.commit.ensures.names in
-    record {
+    subst (λ (M : NetLists). IsWhole M c.in_ok-region.region) (sym c.graph.ensures)
+    (record {
       bound = c.in_ok-region.ensures.bound ∙ c.names-names.ensures.len ∙ sym same;
       all = λ n lt. c.in_ok-region.ensures.all n (omega (arith, lt, same, c.names-names.ensures.len));
-    }
+    })
+
+pub fill_all-requires-clause-unmarked : goal.fill_all-requires-clause-unmarked
+fill_all-requires-clause-unmarked g c =
+    subst (λ (M : NetLists). IsUnmarked (length M.names) c.clear_names.new.marks) (sym c.graph.ensures)
+    (subst (λ (ls : List Literal). IsUnmarked (length ls) c.clear_names.new.marks) (sym c.commit.ensures.names)
+    (subst (λ (k : ℕ). IsUnmarked k c.clear_names.new.marks) c.names-names.ensures.len c.clear_names.ensures))
+
+pub invariant_of-self-2 : goal.invariant_of-self-2
+invariant_of-self-2 g c = record {
+  right = subst (λ (M : NetLists). AreRight M.theory M.names (places c.fill_all.new.marks) (stands c.fill_all.new.marks)) c.graph.ensures c.fill_all.ensures;
+  net_frozen = λ e. absurd cc;
+  marks_frozen = λ e. absurd cc;
+}

@@ -1,0 +1,15 @@
+use Rattle.std.proofs.Common.{◌≡◌, ℕ, List, ap, subst, ◌∙◌}
+use Rattle.std.specs.Prelude.{slice_get}
+use Rattle.dl_net.specs.Rows.{row}
+use Rattle.dl_net.specs.Numbers.{NetLists, lowers_row}
+use Rattle.dl_net.specs.Lines.{list_of}
+use Rattle.dl_net.specs.KeptGraph.{theory_of, graph_of}
+use Rattle.dl_net.proofs.RowLemmas.{get_or-rows}
+use Rattle.dl_net.proofs.graph.Graph.lower_at.Goals as goal
+
+pub returns : goal.returns
+returns c =
+    subst (λ (v : NetLists). c.lower_at.result ≡ slice_get (row (lowers_row v) v.theory.rules c.args.rule) c.args.at) c.self.view_is
+    (c.lower_at.ensures
+    ∙ ap (λ (xs : List (List ℕ)). slice_get (list_of xs c.args.rule) c.args.at) c.self.invariant.tables.index.lowers
+    ∙ ap (λ (xs : List ℕ). slice_get xs c.args.at) (get_or-rows (lowers_row (graph_of c.self.inside)) (theory_of c.self.inside).rules c.args.rule))

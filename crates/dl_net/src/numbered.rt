@@ -1,0 +1,205 @@
+//! A theory that is kept by numbers, without its statements.
+
+ghost use Rattle.std.specs.Prelude.{◌≡◌, ◌↔◌, List, IsTrue, OnOk, OnErr, IfOk, IfErr, All, Contains, false, get_or};
+ghost use Rattle.dl_lit.specs.declared.literal.Literal.{Literal};
+ghost use Rattle.dl_theory.specs.declared.edit.Edit.TheVariants.{AddRule, AddFact};
+ghost use Rattle.dl_theory.specs.declared.rule.Rule.{Rule};
+ghost use Rattle.dl_theory.specs.Lists.{TheoryLists};
+ghost use Rattle.dl_theory.specs.Edits.{HasLabel, IsAccepted, IsStopped, after_edit, after_edits, additions, AreAccepted, IsPairsStop};
+ghost use Rattle.dl_net.specs.Named.{HasFacts};
+
+use crate::index::Index;
+use crate::labels::{holds_label, insert_label, keep_first};
+use crate::load::load_rule;
+use crate::names::PairedNames;
+use crate::number::number_fact;
+use crate::region::Region;
+use crate::table::Table;
+use dl_base::Memory;
+use dl_lit::{Literal, Name, NameSet, name_set};
+use dl_theory::{EditRefusal, EditStop, Loading, Pair, PairsStop, Rule, Superiority};
+use std::alloc::Global;
+use std::marker::Model;
+
+/// So many facts and so many rules there are at most.
+const LIMIT: usize = 1_000_000;
+
+/// A theory by numbers with its indexes, which grows by facts and rules. No rule is kept but by the numbers of its literals, so that each
+/// literal stands once in memory.
+#[derive(Drop)]
+pub struct NumberedTheory {
+    /// The labels of the rules, by the number of the rule.
+    pub(crate) labels: NameSet<Name>,
+    /// The facts by number, in the order in which they came.
+    pub(crate) order: Table<u32>,
+    pub(crate) pairs: Superiority,
+    pub(crate) names: PairedNames,
+    /// By number, whether the literal is a fact.
+    pub(crate) facts: Table<bool>,
+    pub(crate) index: Index,
+    /// What the last long body met.
+    pub(crate) seen: Region,
+}
+
+impl Model for NumberedTheory {
+    ghost use Rattle.dl_net.specs.Numbers.{NetLists};
+
+    ghost Value = { NetLists };
+
+    ghost use Rattle.dl_net.specs.KeptNumbered.{numbered_of, IsKeptNumbered};
+
+    ghost view = { numbered_of };
+
+    ghost invariant = { IsKeptNumbered };
+}
+
+impl NumberedTheory {
+    ghost use Rattle.dl_net.specs.Numbers.{no_net};
+
+    /// The empty theory.
+    pub fn make(alloc: Global) -> NumberedTheory
+        ensures { result ≡ no_net }
+    {
+        NumberedTheory {
+            labels: name_set(alloc),
+            order: Table::make(alloc),
+            pairs: Superiority::make(alloc),
+            names: PairedNames::make(alloc),
+            facts: Table::make(alloc),
+            index: Index::make(alloc),
+            seen: Region::none(alloc),
+        }
+    }
+
+    /// Adds a fact, or says why not.
+    // inlined always, as what takes a rule: the statement is taken apart where it was made, and not moved
+    #[inline(always)]
+    pub fn add_fact(&mut self, fact: Literal) -> Result<(), EditStop>
+        ensures accepted { OnOk result (IsAccepted self.old.theory (AddFact fact)) }
+        ensures changed { OnOk result (self.new.theory ≡ after_edit self.old.theory (AddFact fact)) }
+        ensures stopped { IfErr result (IsStopped self.old.theory (AddFact fact)) }
+        ensures kept { OnErr result (self.new.theory ≡ self.old.theory) }
+    {
+        self.put_fact(&fact)
+    }
+
+    /// Adds a rule, or says why not.
+    #[inline(always)]
+    pub fn add_rule(&mut self, rule: Rule) -> Result<(), EditStop>
+        ensures accepted { OnOk result (IsAccepted self.old.theory (AddRule rule)) }
+        ensures changed { OnOk result (self.new.theory ≡ after_edit self.old.theory (AddRule rule)) }
+        ensures stopped { IfErr result (IsStopped self.old.theory (AddRule rule)) }
+        ensures kept { OnErr result (self.new.theory ≡ self.old.theory) }
+    {
+        self.put_rule(&rule)
+    }
+
+    #[inline(always)]
+    fn put_fact(&mut self, fact: &Literal) -> Result<(), EditStop>
+        ensures accepted { OnOk result (IsAccepted self.old.theory (AddFact fact.now)) }
+        ensures changed { OnOk result (self.new.theory ≡ after_edit self.old.theory (AddFact fact.now)) }
+        ensures stopped { IfErr result (IsStopped self.old.theory (AddFact fact.now)) }
+        ensures kept { OnErr result (self.new.theory ≡ self.old.theory) }
+    {
+        let _count = self.names.len();
+        // one look-up tells whether the fact is new and numbers it; where the list is full, nothing may be numbered
+        if self.order.len() >= LIMIT && !holds_fact(&self.names, &self.facts, fact) {
+            return Err(EditStop::Refused(EditRefusal::FactsFull));
+        }
+        let number = number_fact(&mut self.names, &mut self.facts, fact)?;
+        if is_marked(&self.facts, number as usize) {
+            return Err(EditStop::Refused(EditRefusal::FactThere));
+        }
+        self.order.reserve()?;
+        self.order.push(number);
+        self.facts.write(number as usize, true);
+        Ok(())
+    }
+
+    #[inline(always)]
+    fn put_rule(&mut self, rule: &Rule) -> Result<(), EditStop>
+        ensures accepted { OnOk result (IsAccepted self.old.theory (AddRule rule.now)) }
+        ensures changed { OnOk result (self.new.theory ≡ after_edit self.old.theory (AddRule rule.now)) }
+        ensures stopped { IfErr result (IsStopped self.old.theory (AddRule rule.now)) }
+        ensures kept { OnErr result (self.new.theory ≡ self.old.theory) }
+    {
+        let _names = self.names.len();
+        let count = self.labels.len();
+        if count >= LIMIT && !holds_label(&self.labels, &rule.label) {
+            return Err(EditStop::Refused(EditRefusal::RulesFull));
+        }
+        let label = rule.label.copy()?;
+        let new = insert_label(&mut self.labels, label)?;
+        if !new {
+            return Err(label_there(&rule.label));
+        }
+        let alloc = self.order.alloc();
+        match load_rule(
+            alloc,
+            rule,
+            &mut self.names,
+            &mut self.seen,
+            &mut self.index,
+        ) {
+            Ok(()) => Ok(()),
+            Err(Memory) => {
+                keep_first(&mut self.labels, count);
+                Err(EditStop::Memory)
+            }
+        }
+    }
+
+    /// Adds pairs as adding them one by one, in order, up to the first that is refused.
+    pub fn add_pairs(&mut self, pairs: &[Pair]) -> Result<(), PairsStop>
+        ensures accepted { OnOk result (AreAccepted self.old.theory (additions pairs.now)) }
+        ensures changed { OnOk result (self.new.theory ≡ after_edits self.old.theory (additions pairs.now)) }
+        ensures stopped { IfErr result (IsPairsStop self.old.theory self.new.theory pairs.now) }
+    {
+        self.pairs.add_labelled(&self.labels, pairs)
+    }
+}
+
+impl Loading for NumberedTheory {
+    ghost lists = { λ n. n.theory };
+
+    #[inline(always)]
+    fn add_fact(&mut self, fact: Literal) -> Result<(), EditStop> {
+        NumberedTheory::add_fact(self, fact)
+    }
+
+    #[inline(always)]
+    fn add_rule(&mut self, rule: Rule) -> Result<(), EditStop> {
+        NumberedTheory::add_rule(self, rule)
+    }
+
+    fn add_pairs(&mut self, pairs: &[Pair]) -> Result<(), PairsStop> {
+        NumberedTheory::add_pairs(self, pairs)
+    }
+}
+
+/// The refusal of a label that is there, or `Memory` where there is none for it.
+fn label_there(label: &Name) -> EditStop
+    ensures { (T : TheoryLists) (r : Rule) → r.label ≡ label.now → HasLabel T r.label → IsStopped T (AddRule r) result }
+{
+    match label.copy() {
+        Ok(label) => EditStop::Refused(EditRefusal::LabelThere(label)),
+        Err(Memory) => EditStop::Memory,
+    }
+}
+
+/// Whether a literal is a fact, by the marks of facts.
+fn holds_fact(names: &PairedNames, marks: &Table<bool>, fact: &Literal) -> bool
+    ensures { (qs : List Literal) → All (Contains names.now.literals) qs → HasFacts names.now.literals qs marks.now.items → (IsTrue result ↔ Contains qs fact.now) }
+{
+    match names.find(fact) {
+        None => false,
+        Some(number) => is_marked(marks, number),
+    }
+}
+
+/// Whether a number is marked. One past the end is not.
+fn is_marked(marks: &Table<bool>, number: usize) -> bool
+    ensures { result ≡ get_or marks.now.items number false }
+{
+    number < marks.len() && *marks.at(number)
+}

@@ -1,0 +1,85 @@
+//! A theory that is kept by numbers, with all its indexes.
+
+ghost use Rattle.std.specs.Prelude.{◌≡◌, IfOk};
+
+use crate::graph::{Graph, Kept, Source};
+use crate::index::Index;
+use crate::load::load_pairs;
+use crate::names::PairedNames;
+use crate::numbered::NumberedTheory;
+use crate::table::Table;
+use dl_base::Memory;
+use dl_lit::{Name, NameSet};
+use dl_theory::Superiority;
+use std::marker::Model;
+
+/// A numbered theory of which it is known which rules stand above and below others. It changes no more.
+#[derive(Drop)]
+pub struct NumberedNet {
+    /// The labels of the rules, by the number of the rule.
+    labels: NameSet<Name>,
+    /// The facts by number, in the order in which they came.
+    order: Table<u32>,
+    pairs: Superiority,
+    names: PairedNames,
+    /// By number, whether the literal is a fact.
+    facts: Table<bool>,
+    index: Index,
+}
+
+impl Model for NumberedNet {
+    ghost use Rattle.dl_net.specs.Numbers.{NetLists};
+
+    ghost Value = { NetLists };
+
+    ghost use Rattle.dl_net.specs.KeptNumberedNet.{net_of, IsKeptNumberedNet};
+
+    ghost view = { net_of };
+
+    ghost invariant = { IsKeptNumberedNet };
+}
+
+impl NumberedNet {
+    /// The net of a theory that was loaded. `Memory` where there is none for the rules above and below others.
+    pub fn of(theory: NumberedTheory) -> Result<NumberedNet, Memory>
+        ensures { IfOk result (λ net. net ≡ theory) }
+    {
+        let NumberedTheory {
+            labels,
+            order,
+            pairs,
+            names,
+            facts,
+            mut index,
+            seen: _,
+        } = theory;
+        let _count = names.len();
+        load_pairs(&mut index, &names, &labels, &pairs)?;
+        Ok(NumberedNet {
+            labels,
+            order,
+            pairs,
+            names,
+            facts,
+            index,
+        })
+    }
+
+    /// What a fill reads of it.
+    #[inline(always)]
+    pub fn graph(&self) -> Graph<'_>
+        ensures { result ≡ self.now }
+    {
+        let _count = self.names.len();
+        Graph {
+            names: &self.names,
+            facts: &self.facts,
+            index: &self.index,
+            source: Source::Kept(Kept {
+                labels: &self.labels,
+                order: &self.order,
+                pairs: &self.pairs,
+            }),
+        }
+    }
+}
