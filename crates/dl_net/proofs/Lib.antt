@@ -7,10 +7,12 @@ pub mod LineLemmas
 pub mod PlaceLemmas
 pub mod RuleLemmas
 pub mod LinkLemmas
+pub mod PackedLemmas
 pub mod OrderLemmas
 pub mod TakeLemmas
 pub mod NameLemmas
 pub mod PairLemmas
+pub mod PairRules
 pub mod AboveLemmas
 pub mod JoinLemmas
 pub mod DropLemmas
@@ -21,7 +23,6 @@ pub mod UpperLemmas
 pub mod FindLemmas
 pub mod GraphLemmas
 pub mod NumberedLemmas
-pub mod BareLemmas
 pub mod OccursLemmas
 pub mod StagedLemmas
 mod RegionLemmas

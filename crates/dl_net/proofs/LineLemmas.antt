@@ -1,9 +1,12 @@
 -- Rules by number, from their columns.
-use Rattle.std.proofs.Common.{◌≡◌, ℕ, zero, suc, ◌<◌, List, [], ◌∷◌, ◌++◌, length, get_or, set, refl, sym, ap, ◌∙◌, arith}
+use Rattle.std.proofs.Common.{◌≡◌, ℕ, zero, suc, ◌<◌, List, [], ◌∷◌, ◌++◌, length, map, get_or, set, refl, sym, ap, ◌∙◌, arith}
 use Rattle.dl_theory.specs.declared.rule.Kind.{Kind}
 use Rattle.dl_net.specs.declared.lines.Lines.TheInside.{Inside}
 use Rattle.dl_net.specs.Listed.{Listed}
+use Rattle.dl_net.specs.Tables.{RowLists, no_table}
 use Rattle.dl_net.specs.Lines.{Line, line_at}
+use Rattle.dl_net.specs.Indexes.{by_place}
+use Rattle.dl_net.proofs.TableLemmas.{none_mapped}
 use Rattle.dl_net.specs.KeptLines.{joined, AreAsLong, lines_of, IsKeptLines}
 
 tail_long : {k : Kind} {h : ℕ} {b : List ℕ} {ks : List Kind} {hs : List ℕ} {bs : List (List ℕ)} → AreAsLong (k ∷ ks) (h ∷ hs) (b ∷ bs) → AreAsLong ks hs bs
@@ -79,3 +82,9 @@ module _ (a : Inside) (kept : IsKeptLines a) (v : Listed Line) (is : lines_of a 
         (λ i. joined (kinds i) (heads i) (bodies i))
         ∙ joined_set a.kinds.items a.heads.items a.bodies.items kept n l.kind l.head l.body
         ∙ ap (λ (ls : Listed Line). set ls.items n l) is
+
+-- where no rule is above another, each has an empty list
+pub none_linked : (lines : List Line) (order places : List ℕ) (t : RowLists) → t ≡ no_table → map (line_at lines) order ≡ lines
+    → by_place order places t ≡ map (λ _. []) lines
+none_linked lines order places t none all =
+    ap (by_place order places) none ∙ sym (none_mapped (line_at lines) order) ∙ ap (map (λ _. [])) all

@@ -20,11 +20,12 @@ use Rattle.dl_theory.proofs.WellFormed.{edit_keeps}
 use Rattle.dl_net.specs.Numbers.{no_literal}
 use Rattle.dl_net.specs.Named.{Grows, HasFacts, HasLiterals, number_in, line_in}
 use Rattle.dl_net.specs.Lines.{Line, IndexLists, no_index, KeepsRules, IsWithin}
+use Rattle.dl_net.specs.Linking.{lowers_by, uppers_by}
 use Rattle.dl_net.specs.KeptNet.{numbered, HasTables}
-use Rattle.dl_net.specs.FromNumbers.{literal_in, rule_from, rules_from, theory_from, with_pairs, IsFromNumbers, IsLoading}
+use Rattle.dl_net.specs.FromNumbers.{bare_index, literal_in, rule_from, rules_from, theory_from, with_pairs, IsFromNumbers, IsLoading}
 use Rattle.dl_net.proofs.NameLemmas.{number_within}
 use Rattle.dl_net.proofs.AboveLemmas.{line_within}
-use Rattle.dl_net.proofs.NetLemmas.{facts_after, rules_after}
+use Rattle.dl_net.proofs.NetLemmas.{facts_after, rules_after, tables_by}
 use Rattle.dl_net.proofs.JoinLemmas.{same_rules, tables_roomed, facts_joined, index_like, index_joined}
 
 -- ---- more names
@@ -267,6 +268,39 @@ new_label ls ks order pairs marks x r h new few = (
   λ m. new (subst (λ (labels : List (List ℕ)). Contains labels r.label) (labels_from ls ks order [] marks x h.tables) m),
   omega (arith, few, rules_from_len ls ks order [] marks x h.tables),
 )
+
+-- ---- rules without pairs
+
+-- one rule more is one empty list more
+pub more_empty : (lines lines' : List Line) (l : Line) → lines' ≡ lines ++ l ∷ [] → map {B = List ℕ} (λ _. []) lines' ≡ map (λ _. []) lines ++ [] ∷ []
+more_empty lines lines' l e = ap (map (λ _. [])) e ∙ map-append (λ _. []) lines (l ∷ [])
+
+pub same_lines : (lines lines' : List Line) → lines' ≡ lines → KeepsRules (bare_index lines) (bare_index lines')
+same_lines lines lines' e = record {
+  lines = e;
+  lowers = ap (map (λ _. [])) e;
+  uppers = ap (map (λ _. [])) e;
+  wider = omega arith;
+  numbers = ap length e;
+}
+
+-- ---- all pairs
+
+-- where the rules above and below others are found, the tables are those of the theory with its pairs
+pub linked : (ls : List Literal) (ks : List (List ℕ)) (order : List ℕ) (ps : List Pair) (marks : List Bool) (x x' : IndexLists) → IsLoading ls ks order ps marks x
+    → x'.lines ≡ x.lines
+    → x'.lowers ≡ lowers_by (theory_from ls ks order ps x.lines) ps → x'.uppers ≡ uppers_by (theory_from ls ks order ps x.lines) ps
+    → IsFromNumbers ls ks order ps marks x'
+linked ls ks order ps marks x x' h lines lowers uppers =
+    let T : List Line → TheoryLists = theory_from ls ks order ps in record {
+      formed = subst (λ (xs : List Line). IsWellFormed (T xs)) (sym lines) h.formed;
+      as_long = h.tables.as_long ∙ ap length (sym lines);
+      facts_within = h.tables.facts_within;
+      lines_within = subst (λ (xs : List Line). All (IsWithin (length ls)) xs) (sym lines) h.tables.lines_within;
+      tables = subst (λ (xs : List Line). HasTables (numbered (T xs) ls) marks x') (sym lines)
+          (tables_by (numbered (T x.lines) ls) marks x' h.tables.tables.facts_named h.tables.tables.rules_named h.tables.tables.facts
+          (lines ∙ h.tables.tables.index.lines) lowers uppers);
+    }
 
 -- ---- nothing yet
 

@@ -1,9 +1,9 @@
 -- The members of a list, each once.
 use Rattle.std.proofs.Common.{◌≡◌, ℕ, ◌+◌, ◌≤◌, Bool, true, false, List, [], ◌∷◌, ◌++◌, length, refl, sym, ap, ◌∙◌, arith, cond, inl, inr, length-append}
-use Rattle.std.specs.Prelude.{filter, not, ◌==◌, ◌||◌, ◌&&◌}
+use Rattle.std.specs.Prelude.{filter, not, ◌==◌, ◌||◌, ◌&&◌, All}
 use Rattle.std.specs.List.{list_any}
 use Rattle.std.proofs.lemmas.Bool.{cases_eq}
-use Rattle.std.proofs.lemmas.List.Elements.{filter-append}
+use Rattle.std.proofs.lemmas.List.Elements.{filter-append, All-cons, All-head, All-tail, All-filter}
 use Rattle.std.proofs.lemmas.List.{append-nil}
 use Rattle.dl_base.proofs.Filters.{length-filter_le}
 use Rattle.dl_net.specs.Counting.{each_once}
@@ -96,3 +96,10 @@ each_once-inserted done b v e =
 pub unless_not : (v w : Bool) → w ≡ not v → v ≡ not w
 unless_not true w e = ap not (sym e)
 unless_not false w e = ap not (sym e)
+
+-- what all numbers have, those have that are left
+pub All-each_once : (P : ℕ → Type 0) (xs : List ℕ) → All P xs → All P (each_once xs)
+All-each_once P [] h = h
+All-each_once P (x ∷ xs) h =
+    All-cons P x (filter (λ y. not (y == x)) (each_once xs)) (All-head P x xs h)
+    (All-filter (λ y. not (y == x)) P (each_once xs) (All-each_once P xs (All-tail P x xs h)))

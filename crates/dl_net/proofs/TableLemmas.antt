@@ -3,7 +3,7 @@ use Rattle.std.specs.Prelude.{cond, ◌==◌}
 use Rattle.dl_net.specs.Listed.{Listed}
 use Rattle.dl_net.specs.Tables.{RowLists, list_at, KeepsLists}
 use Rattle.dl_net.proofs.NumberLists.{alike, differ}
-use Rattle.std.proofs.Common.{◌≡◌, ◌≢◌, ℕ, ◌<◌, ◌≤◌, List, [], length, get_or, set, map, sym, ap, ◌∙◌, subst, arith, inl, inr, get_or-set_same, get_or-set_other}
+use Rattle.std.proofs.Common.{◌≡◌, ◌≢◌, ℕ, zero, suc, ◌<◌, ◌≤◌, List, [], ◌∷◌, refl, length, get_or, set, map, sym, ap, ◌∙◌, subst, arith, inl, inr, get_or-set_same, get_or-set_other}
 use Rattle.std.proofs.Math.ListN.{length-map}
 use Rattle.std.proofs.lemmas.List.{get_or-map, map-set, get_or_past}
 use Rattle.std.proofs.Math.Seq.{map-set_same}
@@ -72,3 +72,29 @@ idle_at f none t h past n =
           empty ∙ sym none ∙ ap f (sym empty) ∙ sym (ap (λ b. cond b (f (list_at t n)) (list_at t n)) (alike n h e))
       | inr d ↦ sym (ap (λ b. cond b (f (list_at t n)) (list_at t n)) (differ n h d))
     ]
+
+-- lists that are all empty
+pub none_at : {X : Type 0} (xs : List X) (n : ℕ) → get_or (map {B = List ℕ} (λ _. []) xs) n [] ≡ []
+none_at [] n = refl
+none_at (x ∷ xs) zero = refl
+none_at (x ∷ xs) (suc n) = none_at xs n
+
+pub none_mapped : {X Y : Type 0} (f : X → Y) (xs : List X) → map {B = List ℕ} (λ _. []) (map f xs) ≡ map (λ _. []) xs
+none_mapped f [] = refl
+none_mapped f (x ∷ xs) = ap (λ (ls : List (List ℕ)). [] ∷ ls) (none_mapped f xs)
+
+-- ---- packed lists, which have no room that is known of
+
+pub no_spare : (lists : List (List ℕ)) (n : ℕ) → get_or (map (λ (_ : List ℕ). zero) lists) n zero ≡ zero
+no_spare [] n = refl
+no_spare (x ∷ xs) zero = refl
+no_spare (x ∷ xs) (suc n) = no_spare xs n
+
+-- they are kept where they are opened
+pub opened_keeps : (lists : List (List ℕ)) (opened new : RowLists) → opened.lists ≡ lists → KeepsLists opened new
+    → KeepsLists (record { lists = lists; spare = map (λ _. 0) lists }) new
+opened_keeps lists opened new e h = record {
+  lists = λ n. h.lists n ∙ ap (λ (ls : List (List ℕ)). get_or ls n []) e;
+  wide = omega (arith, h.wide, ap length e);
+  room = λ n. omega (arith, no_spare lists n);
+}

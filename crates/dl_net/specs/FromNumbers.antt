@@ -1,5 +1,5 @@
 -- A theory whose facts and rules are kept by the numbers of their literals.
-use Rattle.std.specs.Prelude.{◌≡◌, ℕ, ◌<◌, Bool, List, [], ◌∷◌, length, get_or, map, All}
+use Rattle.std.specs.Prelude.{◌≡◌, ℕ, ◌<◌, Bool, None, List, [], ◌∷◌, length, get_or, map, All}
 use Rattle.dl_lit.specs.declared.literal.Literal.{Literal}
 use Rattle.dl_theory.specs.declared.rule.Rule.{Rule}
 use Rattle.dl_theory.specs.declared.rule.Pair.{Pair}
@@ -33,6 +33,18 @@ pub record IsFromNumbers (ls : List Literal) (labels : List (List ℕ)) (order :
   pub facts_within : All (λ n. n < length ls) order
   pub lines_within : All (IsWithin (length ls)) x.lines
   pub tables : HasTables (numbered (theory_from ls labels order pairs x.lines) ls) marks x
+
+-- the index of rules without pairs
+abbrev pub bare_index : List Line → IndexLists
+bare_index lines = record {
+  lines = lines;
+  lowers = map (λ _. []) lines;
+  uppers = map (λ _. []) lines;
+  width = 0;
+  numbers = length lines;
+  ready = None;
+  linking = None;
+}
 
 -- the tables hold no pair yet, and the theory may have some
 pub record IsLoading (ls : List Literal) (labels : List (List ℕ)) (order : List ℕ) (pairs : List Pair) (marks : List Bool) (x : IndexLists) : Type 0 where

@@ -5,10 +5,14 @@ pub mod KeptRow
 pub mod Rows
 pub mod Numbers
 pub mod Tables
+pub mod OpenView
 pub mod TablesView
 pub mod Lines
+pub mod Linking
 pub mod KeptBody
 pub mod KeptLines
+pub mod Packed
+pub mod PackedView
 pub mod Indexes
 pub mod KeptIndex
 pub mod Named

@@ -1,7 +1,10 @@
--- How the fields of a table hold its lists.
+-- How a table holds its lists.
 use Rattle.std.specs.Prelude.{map}
-use Rattle.dl_net.specs.declared.rows.RowTable.TheInside.{Inside}
+use Rattle.dl_net.specs.declared.rows.Rows.{Rows}
+use Rattle.dl_net.specs.declared.rows.Rows.TheVariants.{Open, Packed}
 use Rattle.dl_net.specs.Tables.{RowLists}
 
-abbrev pub table_of : Inside → RowLists
-table_of t = record { lists = map (λ v. v.items) t.rows.items; spare = map (λ v. v.spare) t.rows.items }
+-- packed lists have no room that is known of
+abbrev pub table_of : Rows → RowLists
+table_of (Open rows) = rows
+table_of (Packed rows) = record { lists = rows; spare = map (λ _. 0) rows }

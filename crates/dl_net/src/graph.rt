@@ -10,7 +10,7 @@ use crate::names::PairedNames;
 use crate::staged::Staged;
 use crate::table::Table;
 use dl_lit::{Literal, Name, NameSet};
-use dl_theory::Superiority;
+use dl_theory::RulePairs;
 use std::marker::Model;
 
 /// Where a theory comes from.
@@ -27,7 +27,7 @@ pub(crate) enum Source<'a> {
 pub(crate) struct Kept<'a> {
     pub labels: &'a NameSet<Name>,
     pub order: &'a Table<u32>,
-    pub pairs: &'a Superiority,
+    pub pairs: &'a RulePairs,
 }
 
 /// A theory by numbers with its indexes, borrowed from what keeps them.

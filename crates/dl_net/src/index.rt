@@ -4,7 +4,7 @@
 //! number empty, and no other rule's body, index or number changes. As long as none has gone, place and number are the same.
 //! An index most of whose numbers are empty is made anew by the net.
 
-ghost use Rattle.std.specs.Prelude.{◌≡◌, ℕ, ◌+◌, ◌<◌, ◌≤◌, ◌^◌, ◌↔◌, [], ◌∷◌, ◌++◌, All, IsTrue, Some, None, IsSome, IfSome, IfNone, OnOk, OnErr, option_to_list, length, filter, slice_get, get_or, set, map, remove};
+ghost use Rattle.std.specs.Prelude.{◌≡◌, ℕ, ◌+◌, ◌<◌, ◌≤◌, ◌^◌, ◌↔◌, [], ◌∷◌, ◌++◌, All, IsTrue, Some, None, IsSome, IfSome, IfNone, IfOk, OnOk, OnErr, option_to_list, length, filter, slice_get, get_or, set, map, remove};
 ghost use Rattle.dl_theory.specs.Lists.{is_strict, can_support};
 ghost use Rattle.dl_net.specs.Counting.{each_once};
 ghost use Rattle.dl_net.specs.Rows.{places, row};
@@ -17,6 +17,7 @@ use crate::entry::{Between, Entry, Room};
 use crate::lines::Lines;
 use crate::put::{put_rule, reserve_at, reserve_rule, widen};
 use crate::rows::RowTable;
+use crate::rule_lists::RuleLists;
 use crate::table::Table;
 use crate::take::{place_from, take_links, take_rule};
 use dl_base::Memory;
@@ -63,6 +64,34 @@ impl Index {
             uppers: RowTable::make(alloc),
             room: Room::Nothing,
         }
+    }
+
+    /// The index of rules that are all there, whose literals have numbers below a bound. No inner number is empty.
+    pub fn of(alloc: Global, lines: Lines, names: usize) -> Result<Index, Memory>
+        requires within { All (IsWithin names) lines.items }
+        requires few { length lines.items < 2 ^ 32 }
+        ensures lines { IfOk result (λ index. index.lines ≡ lines.items) }
+        ensures lowers { IfOk result (λ index. index.lowers ≡ map (λ _. []) lines.items) }
+        ensures uppers { IfOk result (λ index. index.uppers ≡ map (λ _. []) lines.items) }
+        ensures numbers { IfOk result (λ index. index.numbers ≡ length lines.items) }
+    {
+        let lists = RuleLists::of(alloc, &lines, names)?;
+        let RuleLists {
+            order,
+            places,
+            heads,
+            uses,
+        } = lists;
+        Ok(Index {
+            lines,
+            order,
+            places,
+            heads,
+            uses,
+            lowers: RowTable::make(alloc),
+            uppers: RowTable::make(alloc),
+            room: Room::Nothing,
+        })
     }
 
     /// Lists for this many literals. What there was memory for is forgotten.
@@ -122,35 +151,6 @@ impl Index {
                 entry,
             ),
         }
-    }
-
-    /// One more rule, which goes last. What there was memory for is forgotten.
-    pub fn add(&mut self, entry: Entry) -> Result<(), Memory>
-        requires { IsWithin self.old.width entry }
-        ensures lines { OnOk result (self.new.lines ≡ self.old.lines ++ entry ∷ []) }
-        ensures lowers { OnOk result (self.new.lowers ≡ self.old.lowers ++ [] ∷ []) }
-        ensures uppers { OnOk result (self.new.uppers ≡ self.old.uppers ++ [] ∷ []) }
-        ensures numbers { OnOk result (self.new.numbers ≡ self.old.numbers + 1) }
-        ensures kept { OnErr result (KeepsRules self.old self.new) }
-    {
-        self.room = Room::Nothing;
-        reserve_rule(
-            &mut self.lines,
-            &mut self.order,
-            &mut self.places,
-            &mut self.heads,
-            &mut self.uses,
-            &entry,
-        )?;
-        put_rule(
-            &mut self.lines,
-            &mut self.order,
-            &mut self.places,
-            &mut self.heads,
-            &mut self.uses,
-            entry,
-        );
-        Ok(())
     }
 
     /// Memory for one rule below another.

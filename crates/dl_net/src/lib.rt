@@ -21,6 +21,10 @@ mod numbered;
 mod numbered_net;
 #[cfg(test)]
 mod numbered_tests;
+mod open_rows;
+mod packed_rows;
+#[cfg(test)]
+mod packed_tests;
 mod put;
 mod readers;
 mod ready;
@@ -30,6 +34,7 @@ mod region_tests;
 mod room;
 mod row;
 mod rows;
+mod rule_lists;
 mod staged;
 mod table;
 mod tables;

@@ -3,24 +3,22 @@
 ghost use Rattle.std.specs.Prelude.{◌≡◌, ◌<◌, ◌^◌, ◌+◌, ◌==◌, ◌∷◌, ◌++◌, ℕ, List, [], Some, IfOk, OnOk, OnErr, All, Contains, length, map, get_or, slice_get};
 ghost use Rattle.dl_base.specs.Paths.{IsDistinct};
 ghost use Rattle.dl_theory.specs.declared.rule.Rule.{Rule};
-ghost use Rattle.dl_theory.specs.Lists as lists;
-ghost use Rattle.dl_theory.specs.Lists.{TheoryLists, IsWellFormed};
+ghost use Rattle.dl_theory.specs.Lists.{TheoryLists};
 ghost use Rattle.dl_theory.specs.declared.rule.Pair.{Pair};
-ghost use Rattle.dl_theory.specs.Tests as test;
+ghost use Rattle.dl_net.specs.Linking.{HavePlaces, AreRules, ArePairs, IsPairOf, lowers_by, uppers_by};
 ghost use Rattle.dl_net.specs.Above.{flip, lower_step, upper_step};
 ghost use Rattle.dl_net.specs.Named.{IsPaired, IsNear, Grows, HasLiterals, line_in};
 ghost use Rattle.dl_net.specs.Numbers.{no_rule};
 ghost use Rattle.dl_net.specs.Lines.{KeepsRules, IsWithin, no_line};
 ghost use Rattle.std.specs.List.{flat_map};
 
-use crate::entry::Entry;
 use crate::index::Index;
+use crate::lines::Lines;
 use crate::names::PairedNames;
 use crate::number::number_rule;
 use crate::region::Region;
 use dl_base::Memory;
-use dl_lit::{Name, NameSet};
-use dl_theory::{Rule, Superiority, Theory};
+use dl_theory::{Rule, RulePairs, Theory};
 use std::alloc::Global;
 
 /// The number of the complement: literals stand beside their complements.
@@ -49,37 +47,16 @@ pub(crate) fn index_of(
     ensures there { OnOk result (All (HasLiterals names.new.literals) theory.now.rules) }
     ensures same { All (HasLiterals names.old.literals) theory.now.rules → names.new ≡ names.old }
     ensures lines { IfOk result (λ index. index.lines ≡ map (line_in names.new.literals) theory.now.rules) }
-    ensures lowers { IfOk result (λ index. index.lowers ≡ map (λ t. flat_map (λ p. lower_step theory.now p t) theory.now.pairs) theory.now.rules) }
-    ensures uppers { IfOk result (λ index. index.uppers ≡ map (λ u. flat_map (λ p. upper_step theory.now p u) theory.now.pairs) theory.now.rules) }
+    ensures lowers { IfOk result (λ index. index.lowers ≡ lowers_by theory.now theory.now.pairs) }
+    ensures uppers { IfOk result (λ index. index.uppers ≡ uppers_by theory.now theory.now.pairs) }
     ensures numbers { IfOk result (λ index. index.numbers ≡ length theory.now.rules) }
 {
-    let mut index = Index::make(alloc);
-    load_rules(alloc, names, &mut index, theory.rules())?;
-    load_pairs(&mut index, names, theory.labels(), theory.superiority())?;
+    let pairs = theory.rule_pairs()?;
+    let mut lines = Lines::make(alloc);
+    load_rules(alloc, names, &mut lines, theory.rules())?;
+    let mut index = Index::of(alloc, lines, names.len())?;
+    load_pairs(&mut index, names, &pairs)?;
     Ok(index)
-}
-
-/// A rule by the numbers of its literals, which get some beside their complements where they have none. The index gets lists for them.
-fn numbered(
-    alloc: Global,
-    rule: &Rule,
-    names: &mut PairedNames,
-    seen: &mut Region,
-    index: &mut Index,
-) -> Result<Entry, Memory>
-    requires { IsPaired names.old.literals }
-    ensures paired { IsPaired names.new.literals }
-    ensures distinct { IsDistinct names.new.literals }
-    ensures grown { Grows (IsNear (rule.now.head ∷ rule.now.body)) names.old.literals names.new.literals }
-    ensures there { OnOk result (HasLiterals names.new.literals rule.now) }
-    ensures same { HasLiterals names.old.literals rule.now → names.new ≡ names.old }
-    ensures kept { KeepsRules index.old index.new }
-    ensures line { IfOk result (λ e. e ≡ line_in names.new.literals rule.now) }
-    ensures within { IfOk result (IsWithin index.new.width) }
-{
-    let entry = number_rule(alloc, names, seen, rule)?;
-    index.widen(names.len())?;
-    Ok(entry)
 }
 
 /// Room for a rule, whose literals and their complements get numbers.
@@ -99,7 +76,8 @@ pub(crate) fn room_for_rule(
     ensures ready { OnOk result (index.new.ready ≡ Some (line_in names.new.literals rule.now)) }
 {
     let mut seen = Region::none(alloc);
-    let entry = numbered(alloc, rule, names, &mut seen, index)?;
+    let entry = number_rule(alloc, names, &mut seen, rule)?;
+    index.widen(names.len())?;
     index.reserve(entry)
 }
 
@@ -109,7 +87,7 @@ pub(crate) fn load_rule(
     rule: &Rule,
     names: &mut PairedNames,
     seen: &mut Region,
-    index: &mut Index,
+    lines: &mut Lines,
 ) -> Result<(), Memory>
     requires { IsPaired names.old.literals }
     ensures paired { IsPaired names.new.literals }
@@ -117,107 +95,84 @@ pub(crate) fn load_rule(
     ensures grown { Grows (IsNear (rule.now.head ∷ rule.now.body)) names.old.literals names.new.literals }
     ensures there { OnOk result (HasLiterals names.new.literals rule.now) }
     ensures same { HasLiterals names.old.literals rule.now → names.new ≡ names.old }
-    ensures lines { OnOk result (index.new.lines ≡ index.old.lines ++ line_in names.new.literals rule.now ∷ []) }
-    ensures lowers { OnOk result (index.new.lowers ≡ index.old.lowers ++ [] ∷ []) }
-    ensures uppers { OnOk result (index.new.uppers ≡ index.old.uppers ++ [] ∷ []) }
-    ensures numbers { OnOk result (index.new.numbers ≡ index.old.numbers + 1) }
-    ensures kept { OnErr result (KeepsRules index.old index.new) }
+    ensures lines { OnOk result (lines.new.items ≡ lines.old.items ++ line_in names.new.literals rule.now ∷ []) }
+    ensures kept { OnErr result (lines.new.items ≡ lines.old.items) }
 {
-    let entry = numbered(alloc, rule, names, seen, index)?;
-    index.add(entry)
+    let _names = names.len();
+    let entry = number_rule(alloc, names, seen, rule)?;
+    lines.reserve()?;
+    lines.push(entry);
+    Ok(())
 }
 
 /// Rules by the numbers of their literals, which get some beside their complements where they have none.
 fn load_rules(
     alloc: Global,
     names: &mut PairedNames,
-    index: &mut Index,
+    lines: &mut Lines,
     rules: &[Rule],
 ) -> Result<(), Memory>
     requires paired { IsPaired names.old.literals }
-    requires lines { index.old.lines ≡ [] }
-    requires lowers { index.old.lowers ≡ [] }
-    requires uppers { index.old.uppers ≡ [] }
-    requires numbers { index.old.numbers ≡ 0 }
+    requires lines { lines.old.items ≡ [] }
     ensures paired { OnOk result (IsPaired names.new.literals) }
     ensures distinct { OnOk result (IsDistinct names.new.literals) }
     ensures grown { OnOk result (Grows (λ _. Unit {0}) names.old.literals names.new.literals) }
     ensures there { OnOk result (All (HasLiterals names.new.literals) rules.now) }
     ensures same { All (HasLiterals names.old.literals) rules.now → names.new ≡ names.old }
-    ensures lines { OnOk result (index.new.lines ≡ map (line_in names.new.literals) rules.now) }
-    ensures lowers { OnOk result (index.new.lowers ≡ map (λ _. []) rules.now) }
-    ensures uppers { OnOk result (index.new.uppers ≡ map (λ _. []) rules.now) }
-    ensures numbers { OnOk result (index.new.numbers ≡ length rules.now) }
+    ensures lines { OnOk result (lines.new.items ≡ map (line_in names.new.literals) rules.now) }
 {
     let _count = names.len();
     let mut seen = Region::none(alloc);
     for rule in rules {
-        load_rule(alloc, rule, names, &mut seen, index)?;
+        load_rule(alloc, rule, names, &mut seen, lines)?;
     }
     Ok(())
 }
 
-/// Which rules stand below and above each rule, where the rules have these labels and these are the pairs.
+/// Which rules stand below and above each rule, where these are the pairs.
 pub(crate) fn load_pairs(
     index: &mut Index,
     names: &PairedNames,
-    labels: &NameSet<Name>,
-    pairs: &Superiority,
+    pairs: &RulePairs,
 ) -> Result<(), Memory>
-    ghost theory: { TheoryLists }
-    requires formed { IsWellFormed theory }
-    requires labels { lists.labels theory ≡ labels.now.keys }
-    requires pairs { theory.pairs ≡ pairs.now }
-    requires distinct { IsDistinct names.now.literals }
-    requires paired { IsPaired names.now.literals }
-    requires named { All (HasLiterals names.now.literals) theory.rules }
-    requires lines { index.old.lines ≡ map (line_in names.now.literals) theory.rules }
-    requires lowers { index.old.lowers ≡ map (λ _. []) theory.rules }
-    requires uppers { index.old.uppers ≡ map (λ _. []) theory.rules }
+    requires heads { All (IsWithin (length names.now.literals)) index.old.lines }
+    requires places { HavePlaces (length index.old.lines) pairs.now }
     ensures lines { OnOk result (index.new.lines ≡ index.old.lines) }
     ensures numbers { OnOk result (index.new.numbers ≡ index.old.numbers) }
-    ensures lowers { OnOk result (index.new.lowers ≡ map (λ t. flat_map (λ p. lower_step theory p t) theory.pairs) theory.rules) }
-    ensures uppers { OnOk result (index.new.uppers ≡ map (λ u. flat_map (λ p. upper_step theory p u) theory.pairs) theory.rules) }
+    ensures lowers { OnOk result ((T : TheoryLists) → AreRules T names.now.literals index.old.lines → ArePairs T pairs.now → index.old.lowers ≡ map (λ _. []) T.rules → index.new.lowers ≡ lowers_by T T.pairs) }
+    ensures uppers { OnOk result ((T : TheoryLists) → AreRules T names.now.literals index.old.lines → ArePairs T pairs.now → index.old.uppers ≡ map (λ _. []) T.rules → index.new.uppers ≡ uppers_by T T.pairs) }
 {
     for at in 0..pairs.len() {
-        load_pair(index, names, labels, pairs, at)?;
+        match pairs.rules_of(at) {
+            None => unreachable!(),
+            Some((upper, lower)) => load_pair(index, names, upper, lower)?,
+        }
     }
     Ok(())
 }
 
-/// The rules of the pair at a place, below and above each other.
+/// The rules of a pair, below and above each other where their heads attack each other.
 fn load_pair(
     index: &mut Index,
     names: &PairedNames,
-    labels: &NameSet<Name>,
-    pairs: &Superiority,
-    at: usize,
+    upper: usize,
+    lower: usize,
 ) -> Result<(), Memory>
-    ghost theory: { TheoryLists }
-    requires formed { IsWellFormed theory }
-    requires labels { lists.labels theory ≡ labels.now.keys }
-    requires pairs { theory.pairs ≡ pairs.now }
-    requires distinct { IsDistinct names.now.literals }
-    requires paired { IsPaired names.now.literals }
-    requires named { All (HasLiterals names.now.literals) theory.rules }
-    requires lines { index.old.lines ≡ map (line_in names.now.literals) theory.rules }
-    requires within { at < length theory.pairs }
+    requires upper { upper < length index.old.lines }
+    requires lower { lower < length index.old.lines }
+    requires head { (get_or index.old.lines upper no_line).head < length names.now.literals }
     ensures lines { OnOk result (index.new.lines ≡ index.old.lines) }
     ensures numbers { OnOk result (index.new.numbers ≡ index.old.numbers) }
-    ensures lowers { OnOk result ((p : Pair) → slice_get theory.pairs at ≡ Some p → (F : Rule → List ℕ) → index.old.lowers ≡ map F theory.rules → index.new.lowers ≡ map (λ t. F t ++ lower_step theory p t) theory.rules) }
-    ensures uppers { OnOk result ((p : Pair) → slice_get theory.pairs at ≡ Some p → (F : Rule → List ℕ) → index.old.uppers ≡ map F theory.rules → index.new.uppers ≡ map (λ u. F u ++ upper_step theory p u) theory.rules) }
+    ensures lowers { OnOk result ((T : TheoryLists) (p : Pair) → AreRules T names.now.literals index.old.lines → IsPairOf T p upper lower → (F : Rule → List ℕ) → index.old.lowers ≡ map F T.rules → index.new.lowers ≡ map (λ t. F t ++ lower_step T p t) T.rules) }
+    ensures uppers { OnOk result ((T : TheoryLists) (p : Pair) → AreRules T names.now.literals index.old.lines → IsPairOf T p upper lower → (F : Rule → List ℕ) → index.old.uppers ≡ map F T.rules → index.new.uppers ≡ map (λ u. F u ++ upper_step T p u) T.rules) }
 {
-    match pairs.rules_of(labels, at) {
-        None => unreachable!(),
-        Some((upper, lower)) => {
-            if !meet(index, names, upper, lower) {
-                return Ok(());
-            }
-            index.reserve_link(upper, lower)?;
-            index.put_link();
-            Ok(())
-        }
+    let _count = names.len();
+    if !meet(index, names, upper, lower) {
+        return Ok(());
     }
+    index.reserve_link(upper, lower)?;
+    index.put_link();
+    Ok(())
 }
 
 /// Whether the head of one rule is attacked by that of another.

@@ -139,7 +139,7 @@ fn once_among(
     if seen.len() == numbers.len() {
         return Ok(None);
     }
-    let once = row_of(alloc, seen.members())?;
+    let once = Row::of(alloc, seen.members())?;
     Ok(Some(once))
 }
 
@@ -162,17 +162,6 @@ fn gather(seen: &mut Region, numbers: &[u32])
     for number in numbers {
         seen.put(*number as usize);
     }
-}
-
-/// A list of these numbers.
-fn row_of(alloc: Global, numbers: &[u32]) -> Result<Row, Memory>
-    ensures { IfOk result (λ row. row.items ≡ numbers.now) }
-{
-    let mut row = Row::make();
-    for number in numbers {
-        row.push(alloc, *number)?;
-    }
-    Ok(row)
 }
 
 /// How many numbers there are, each counted once. Each is sought among those before it, so the list is to be short.

@@ -8,8 +8,8 @@ ghost use Rattle.dl_theory.specs.Lists.{TheoryLists};
 ghost use Rattle.dl_theory.specs.Edits.{HasLabel, IsAccepted, IsStopped, after_edit, after_edits, additions, AreAccepted, IsPairsStop};
 ghost use Rattle.dl_net.specs.Named.{HasFacts};
 
-use crate::index::Index;
-use crate::labels::{holds_label, insert_label, keep_first};
+use crate::labels::keep_first;
+use crate::lines::Lines;
 use crate::load::load_rule;
 use crate::names::PairedNames;
 use crate::number::number_fact;
@@ -17,14 +17,14 @@ use crate::region::Region;
 use crate::table::Table;
 use dl_base::Memory;
 use dl_lit::{Literal, Name, NameSet, name_set};
-use dl_theory::{EditRefusal, EditStop, Loading, Pair, PairsStop, Rule, Superiority};
+use dl_theory::{
+    EditRefusal, EditStop, LIMIT, Loading, Pair, PairsStop, Rule, RulePairs, holds_label,
+    insert_label,
+};
 use std::alloc::Global;
 use std::marker::Model;
 
-/// So many facts and so many rules there are at most.
-const LIMIT: usize = 1_000_000;
-
-/// A theory by numbers with its indexes, which grows by facts and rules. No rule is kept but by the numbers of its literals, so that each
+/// A theory by numbers, which grows by facts and rules. No rule is kept but by the numbers of its literals, so that each
 /// literal stands once in memory.
 #[derive(Drop)]
 pub struct NumberedTheory {
@@ -32,11 +32,12 @@ pub struct NumberedTheory {
     pub(crate) labels: NameSet<Name>,
     /// The facts by number, in the order in which they came.
     pub(crate) order: Table<u32>,
-    pub(crate) pairs: Superiority,
+    pub(crate) pairs: RulePairs,
     pub(crate) names: PairedNames,
     /// By number, whether the literal is a fact.
     pub(crate) facts: Table<bool>,
-    pub(crate) index: Index,
+    /// The rules by the numbers of their literals. They are found by these when all are there.
+    pub(crate) lines: Lines,
     /// What the last long body met.
     pub(crate) seen: Region,
 }
@@ -63,37 +64,16 @@ impl NumberedTheory {
         NumberedTheory {
             labels: name_set(alloc),
             order: Table::make(alloc),
-            pairs: Superiority::make(alloc),
+            pairs: RulePairs::make(alloc),
             names: PairedNames::make(alloc),
             facts: Table::make(alloc),
-            index: Index::make(alloc),
+            lines: Lines::make(alloc),
             seen: Region::none(alloc),
         }
     }
 
     /// Adds a fact, or says why not.
     // inlined always, as what takes a rule: the statement is taken apart where it was made, and not moved
-    #[inline(always)]
-    pub fn add_fact(&mut self, fact: Literal) -> Result<(), EditStop>
-        ensures accepted { OnOk result (IsAccepted self.old.theory (AddFact fact)) }
-        ensures changed { OnOk result (self.new.theory ≡ after_edit self.old.theory (AddFact fact)) }
-        ensures stopped { IfErr result (IsStopped self.old.theory (AddFact fact)) }
-        ensures kept { OnErr result (self.new.theory ≡ self.old.theory) }
-    {
-        self.put_fact(&fact)
-    }
-
-    /// Adds a rule, or says why not.
-    #[inline(always)]
-    pub fn add_rule(&mut self, rule: Rule) -> Result<(), EditStop>
-        ensures accepted { OnOk result (IsAccepted self.old.theory (AddRule rule)) }
-        ensures changed { OnOk result (self.new.theory ≡ after_edit self.old.theory (AddRule rule)) }
-        ensures stopped { IfErr result (IsStopped self.old.theory (AddRule rule)) }
-        ensures kept { OnErr result (self.new.theory ≡ self.old.theory) }
-    {
-        self.put_rule(&rule)
-    }
-
     #[inline(always)]
     fn put_fact(&mut self, fact: &Literal) -> Result<(), EditStop>
         ensures accepted { OnOk result (IsAccepted self.old.theory (AddFact fact.now)) }
@@ -116,6 +96,7 @@ impl NumberedTheory {
         Ok(())
     }
 
+    /// Adds a rule, or says why not.
     #[inline(always)]
     fn put_rule(&mut self, rule: &Rule) -> Result<(), EditStop>
         ensures accepted { OnOk result (IsAccepted self.old.theory (AddRule rule.now)) }
@@ -139,7 +120,7 @@ impl NumberedTheory {
             rule,
             &mut self.names,
             &mut self.seen,
-            &mut self.index,
+            &mut self.lines,
         ) {
             Ok(()) => Ok(()),
             Err(Memory) => {
@@ -148,15 +129,6 @@ impl NumberedTheory {
             }
         }
     }
-
-    /// Adds pairs as adding them one by one, in order, up to the first that is refused.
-    pub fn add_pairs(&mut self, pairs: &[Pair]) -> Result<(), PairsStop>
-        ensures accepted { OnOk result (AreAccepted self.old.theory (additions pairs.now)) }
-        ensures changed { OnOk result (self.new.theory ≡ after_edits self.old.theory (additions pairs.now)) }
-        ensures stopped { IfErr result (IsPairsStop self.old.theory self.new.theory pairs.now) }
-    {
-        self.pairs.add_labelled(&self.labels, pairs)
-    }
 }
 
 impl Loading for NumberedTheory {
@@ -164,16 +136,16 @@ impl Loading for NumberedTheory {
 
     #[inline(always)]
     fn add_fact(&mut self, fact: Literal) -> Result<(), EditStop> {
-        NumberedTheory::add_fact(self, fact)
+        self.put_fact(&fact)
     }
 
     #[inline(always)]
     fn add_rule(&mut self, rule: Rule) -> Result<(), EditStop> {
-        NumberedTheory::add_rule(self, rule)
+        self.put_rule(&rule)
     }
 
     fn add_pairs(&mut self, pairs: &[Pair]) -> Result<(), PairsStop> {
-        NumberedTheory::add_pairs(self, pairs)
+        self.pairs.add_labelled(&self.labels, pairs)
     }
 }
 

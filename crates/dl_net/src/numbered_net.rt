@@ -10,7 +10,7 @@ use crate::numbered::NumberedTheory;
 use crate::table::Table;
 use dl_base::Memory;
 use dl_lit::{Name, NameSet};
-use dl_theory::Superiority;
+use dl_theory::RulePairs;
 use std::marker::Model;
 
 /// A numbered theory of which it is known which rules stand above and below others. It changes no more.
@@ -20,7 +20,7 @@ pub struct NumberedNet {
     labels: NameSet<Name>,
     /// The facts by number, in the order in which they came.
     order: Table<u32>,
-    pairs: Superiority,
+    pairs: RulePairs,
     names: PairedNames,
     /// By number, whether the literal is a fact.
     facts: Table<bool>,
@@ -40,7 +40,7 @@ impl Model for NumberedNet {
 }
 
 impl NumberedNet {
-    /// The net of a theory that was loaded. `Memory` where there is none for the rules above and below others.
+    /// The net of a theory that was loaded. `Memory` where there is none for the lists of its rules.
     pub fn of(theory: NumberedTheory) -> Result<NumberedNet, Memory>
         ensures { IfOk result (λ net. net ≡ theory) }
     {
@@ -50,11 +50,12 @@ impl NumberedNet {
             pairs,
             names,
             facts,
-            mut index,
+            lines,
             seen: _,
         } = theory;
-        let _count = names.len();
-        load_pairs(&mut index, &names, &labels, &pairs)?;
+        let alloc = order.alloc();
+        let mut index = Index::of(alloc, lines, names.len())?;
+        load_pairs(&mut index, &names, &pairs)?;
         Ok(NumberedNet {
             labels,
             order,

@@ -50,6 +50,17 @@ impl Row {
         }
     }
 
+    /// A list of these numbers.
+    pub fn of(alloc: Global, numbers: &[u32]) -> Result<Row, Memory>
+        ensures { IfOk result (λ row. row.items ≡ numbers.now) }
+    {
+        let mut row = Row::make();
+        for number in numbers {
+            row.push(alloc, *number)?;
+        }
+        Ok(row)
+    }
+
     /// Room for one more number. `Memory` leaves the list as it was.
     #[inline(always)]
     pub fn reserve(&mut self, alloc: Global) -> Result<(), Memory>

@@ -1,9 +1,10 @@
 //! Lists of numbers by number.
 
-ghost use Rattle.std.specs.Prelude.{◌≡◌, ℕ, ◌+◌, ◌-◌, ◌<◌, ◌≤◌, ◌≢◌, ◌==◌, [], ◌∷◌, ◌++◌, OnOk, OnErr, length, slice_get, set, if◌then◌else◌};
+ghost use Rattle.std.specs.Prelude.{◌≡◌, ℕ, ◌+◌, ◌<◌, ◌≤◌, ◌≢◌, ◌==◌, [], ◌∷◌, ◌++◌, OnOk, OnErr, IfOk, map, length, slice_get, set, if◌then◌else◌};
 ghost use Rattle.dl_net.specs.Tables.{no_table, list_at, spare_at, drop_item, KeepsLists, ends_with};
 
-use crate::row::Row;
+use crate::open_rows::OpenRows;
+use crate::packed_rows::PackedRows;
 use dl_base::Memory;
 use std::alloc::Global;
 use std::marker::Model;
@@ -11,7 +12,14 @@ use std::marker::Model;
 /// A list of numbers at each number.
 #[derive(Drop)]
 pub(crate) struct RowTable {
-    rows: Vec<Row>,
+    rows: Rows,
+}
+
+/// Lists that grow, or lists that stand packed in the room that they were made with, until one of them is to have more.
+#[derive(Drop)]
+enum Rows {
+    Open(OpenRows),
+    Packed(PackedRows),
 }
 
 impl Model for RowTable {
@@ -21,7 +29,7 @@ impl Model for RowTable {
 
     ghost use Rattle.dl_net.specs.TablesView.{table_of};
 
-    ghost view = { table_of };
+    ghost view = { λ t. table_of t.rows };
 }
 
 impl RowTable {
@@ -29,31 +37,67 @@ impl RowTable {
         ensures { result ≡ no_table }
     {
         RowTable {
-            rows: Vec::new(alloc),
+            rows: Rows::Open(OpenRows::make(alloc)),
         }
     }
 
-    /// One more list, which is empty.
+    /// Empty lists with room for so many numbers each, packed one behind another. `Memory` where there is none for them, or where they have
+    /// more room together than numbers of 32 bits tell.
+    pub fn with_room(alloc: Global, counts: &[u32]) -> Result<RowTable, Memory>
+        ensures { IfOk result (λ table. table.lists ≡ map (λ _. []) counts.now) }
+    {
+        let rows = PackedRows::with_room(alloc, counts)?;
+        Ok(RowTable {
+            rows: Rows::Packed(rows),
+        })
+    }
+
+    /// One more list, which is empty. Packed lists are opened for it, once for all.
     pub fn grow(&mut self) -> Result<(), Memory>
         ensures kept { KeepsLists self.old self.new }
         ensures grown { OnOk result (length self.new.lists ≡ length self.old.lists + 1) }
         ensures err { OnErr result (self.new ≡ self.old) }
     {
-        self.rows.push(Row::make())?;
-        Ok(())
+        match &mut self.rows {
+            Rows::Open(rows) => rows.grow(),
+            Rows::Packed(rows) => {
+                let mut open = OpenRows::of(rows)?;
+                open.grow()?;
+                self.rows = Rows::Open(open);
+                Ok(())
+            }
+        }
     }
 
-    /// Room for one more number in a list.
+    /// Room for one more number in a list. Packed lists are opened for it, once for all.
     pub fn reserve(&mut self, number: usize) -> Result<(), Memory>
         requires { number < length self.old.lists }
         ensures kept { KeepsLists self.old self.new }
         ensures same { length self.new.lists ≡ length self.old.lists }
         ensures room { OnOk result (0 < spare_at self.new number) }
     {
-        let alloc = *self.rows.allocator();
-        let row = &mut self.rows[number];
-        row.reserve(alloc)?;
-        Ok(())
+        match &mut self.rows {
+            Rows::Open(rows) => rows.reserve(number),
+            Rows::Packed(rows) => {
+                let mut open = OpenRows::of(rows)?;
+                open.reserve(number)?;
+                self.rows = Rows::Open(open);
+                Ok(())
+            }
+        }
+    }
+
+    /// A number at the end of a list. `Memory` where there is none for it, or where the lists are packed and this one is full.
+    #[inline(always)]
+    pub fn append(&mut self, number: usize, item: u32) -> Result<(), Memory>
+        requires { number < length self.old.lists }
+        ensures lists { OnOk result (self.new.lists ≡ set self.old.lists number (list_at self.old number ++ item ∷ [])) }
+        ensures kept { OnErr result (self.new.lists ≡ self.old.lists) }
+    {
+        match &mut self.rows {
+            Rows::Open(rows) => rows.append(number, item),
+            Rows::Packed(rows) => rows.append(number, item),
+        }
     }
 
     /// A number at the end of a list, in room that is there.
@@ -62,8 +106,11 @@ impl RowTable {
         ensures lists { self.new.lists ≡ set self.old.lists number (list_at self.old number ++ item ∷ []) }
         ensures room { (n : ℕ) → n ≢ number → spare_at self.new n ≡ spare_at self.old n }
     {
-        let row = &mut self.rows[number];
-        row.push_reserved(item);
+        match &mut self.rows {
+            Rows::Open(rows) => rows.push(number, item),
+            // packed lists have no room that is known of
+            Rows::Packed(_) => unreachable!(),
+        }
     }
 
     /// Takes a number out of a list. Past the end no list has any.
@@ -71,11 +118,10 @@ impl RowTable {
         ensures lists { (n : ℕ) → list_at self.new n ≡ (if n == number then drop_item item (list_at self.old n) else list_at self.old n) }
         ensures same { length self.new.lists ≡ length self.old.lists }
     {
-        if number >= self.rows.len() {
-            return;
+        match &mut self.rows {
+            Rows::Open(rows) => rows.remove(number, item),
+            Rows::Packed(rows) => rows.remove(number, item),
         }
-        let row = &mut self.rows[number];
-        row.remove(item);
     }
 
     /// Empties a list.
@@ -83,65 +129,63 @@ impl RowTable {
         ensures lists { (n : ℕ) → list_at self.new n ≡ (if n == number then [] else list_at self.old n) }
         ensures same { length self.new.lists ≡ length self.old.lists }
     {
-        if number >= self.rows.len() {
-            return;
+        match &mut self.rows {
+            Rows::Open(rows) => rows.clear(number),
+            Rows::Packed(rows) => rows.clear(number),
         }
-        let row = &mut self.rows[number];
-        row.clear();
     }
 
+    #[inline(always)]
     pub fn len(&self) -> usize
         ensures { result ≡ length self.now.lists }
     {
-        self.rows.len()
+        match &self.rows {
+            Rows::Open(rows) => rows.len(),
+            Rows::Packed(rows) => rows.len(),
+        }
     }
 
     /// The numbers of a list.
+    #[inline(always)]
     pub fn row(&self, number: usize) -> &[u32]
         ensures { result.now ≡ list_at self.now number }
     {
-        match self.rows.get(number) {
-            None => &[],
-            Some(row) => row.as_slice(),
+        match &self.rows {
+            Rows::Open(rows) => rows.row(number),
+            Rows::Packed(rows) => rows.row(number),
         }
     }
 
     /// How many numbers a list has.
+    #[inline(always)]
     pub fn count(&self, number: usize) -> usize
         ensures { result ≡ length (list_at self.now number) }
     {
-        match self.rows.get(number) {
-            None => 0,
-            Some(row) => row.len(),
+        match &self.rows {
+            Rows::Open(rows) => rows.count(number),
+            Rows::Packed(rows) => rows.count(number),
         }
     }
 
     /// The number at a place of a list.
+    #[inline(always)]
     pub fn get(&self, number: usize, at: usize) -> Option<u32>
         ensures { result ≡ slice_get (list_at self.now number) at }
     {
-        match self.rows.get(number) {
-            None => None,
-            Some(row) => row.as_slice().get(at).copied(),
+        match &self.rows {
+            Rows::Open(rows) => rows.get(number, at),
+            Rows::Packed(rows) => rows.get(number, at),
         }
     }
 
     /// Whether this is the last number of a list.
+    #[inline(always)]
     pub fn ends_with(&self, number: usize, item: u32) -> bool
         ensures { result ≡ ends_with (list_at self.now number) item }
     {
-        match self.rows.get(number) {
-            None => false,
-            Some(row) => ends_with(row.as_slice(), item),
+        match &self.rows {
+            Rows::Open(rows) => rows.ends_with(number, item),
+            Rows::Packed(rows) => rows.ends_with(number, item),
         }
-    }
-}
-
-fn ends_with(row: &[u32], item: u32) -> bool
-    ensures { result ≡ ends_with row.now item }
-{
-    match row.last() {
-        None => false,
-        Some(last) => *last == item,
     }
 }

@@ -6,3 +6,5 @@ pub mod Turning
 pub mod Loading
 pub mod Settling
 pub mod Adding
+pub mod Whole
+pub mod Extending

@@ -1,9 +1,10 @@
 -- Pairs added one after another, as edits.
-use Rattle.std.proofs.Common.{◌≡◌, ℕ, ◌+◌, ◌≤◌, ◌<◌, List, [], ◌∷◌, ◌++◌, Option, None, Some, Result, Ok, Err, length, take, sym, ap, subst, ◌∙◌, append_assoc, arith, length-append}
+use Rattle.std.proofs.Common.{◌≡◌, ℕ, ◌+◌, ◌≤◌, ◌<◌, List, [], ◌∷◌, ◌++◌, Option, None, Some, Result, Ok, Err, length, map, take, sym, ap, subst, ◌∙◌, append_assoc, arith, length-append}
 use Rattle.std.specs.Prelude.{All, OnOk, IfErr}
-use Rattle.std.proofs.lemmas.List.{append-nil, take_all, take-take, length-take}
+use Rattle.std.proofs.lemmas.List.{append-nil, take_all, take-take, length-map, length-take}
 use Rattle.std.proofs.lemmas.List.Elements.{All-head, All-tail, All-take}
 use Rattle.std.proofs.lemmas.Option.{slice_get_within, get_or_from_slice_get}
+use Rattle.dl_sup.specs.declared.link.Link.{Link}
 use Rattle.dl_theory.specs.declared.rule.Pair.{Pair}
 use Rattle.dl_theory.specs.declared.edit.Edit.TheVariants.{AddPair}
 use Rattle.dl_theory.specs.declared.edit.EditRefusal.{EditRefusal}
@@ -14,6 +15,7 @@ use Rattle.dl_theory.specs.declared.superiority.PairCause.{PairCause}
 use Rattle.dl_theory.specs.declared.superiority.PairCause.TheVariants as pair_cause
 use Rattle.dl_theory.specs.declared.superiority.PairRefused.{PairRefused}
 use Rattle.dl_theory.specs.Lists.{TheoryLists, IsWellFormed, labels}
+use Rattle.dl_theory.specs.Pairs.{named}
 use Rattle.dl_theory.specs.Superiority.{AreFree, IsCause, AddsAll}
 use Rattle.dl_theory.specs.Edits.{after_edit, after_edits, additions, AreAccepted, IsRefused, IsMissing, HasBoth, IsFront, IsPairsStop}
 use Rattle.dl_theory.specs.Refusals.{refusal_of, outcome_of}
@@ -125,6 +127,23 @@ labelled_outcome T names old pairs new refused missing end r l p front adds few 
     subst (λ (s : Result (Unit {0}) PairsStop). IsOutcome T new pairs s) (sym e)
     (pairs_outcome T pairs new refused missing end (subst (λ (ns : List (List ℕ)). IsFront ns pairs end missing) (sym l) front)
     (subst (λ (ps : List Pair). AddsAll ps new (take end pairs) refused) (sym p) adds) few)
+
+-- the same for pairs that are kept as pairs of numbers
+pub numbered_outcome : (T : TheoryLists) (names items : List (List ℕ)) (old new links more : List Link) (pairs : List Pair) (refused : Option PairRefused)
+    (missing : Option EditRefusal) (end : ℕ) (r : Result (Unit {0}) PairsStop) → labels T ≡ names → T.pairs ≡ map (named names) old
+    → items ≡ names → more ≡ links → end ≡ length links → IsFront names pairs (length links) missing
+    → map (named names) links ≡ take (length links) pairs
+    → AddsAll (map (named items) old) (map (named items) new) (map (named items) more) refused
+    → length new ≤ 1000000 → r ≡ outcome_of refused missing end → IsOutcome T (map (named names) new) pairs r
+numbered_outcome T names items old new links more pairs refused missing end r l p same_items same_links same_end front named_as adds few e =
+    let by_names : AddsAll (map (named names) old) (map (named names) new) (map (named names) more) refused =
+    subst (λ (ns : List (List ℕ)). AddsAll (map (named ns) old) (map (named ns) new) (map (named ns) more) refused) same_items adds in
+    let tried : map (named names) more ≡ take end pairs =
+    ap (map (named names)) same_links ∙ named_as ∙ ap (λ n. take n pairs) (sym same_end) in
+    labelled_outcome T names (map (named names) old) pairs (map (named names) new) refused missing end r l p
+    (subst (λ (n : ℕ). IsFront names pairs n missing) (sym same_end) front)
+    (subst (λ (ps : List Pair). AddsAll (map (named names) old) (map (named names) new) ps refused) tried by_names)
+    (omega (arith, length-map new (named names), few)) e
 
 -- where pairs were added, nothing else has changed
 pub changed_whole : (T : TheoryLists) (new pairs : List Pair) (r : Result (Unit {0}) PairsStop)

@@ -1,12 +1,12 @@
 -- Pairs added one after another, by their numbers.
-use Rattle.std.proofs.Common.{◌≡◌, ℕ, zero, suc, ◌+◌, ◌-◌, ◌<◌, ◌≤◌, List, [], ◌∷◌, ◌++◌, Option, None, Some, length, map, take, get_or, filter, not, is_some, true, false, inl, inr, refl, sym, ap, subst, ◌∙◌, append_assoc, arith, length-append}
-use Rattle.std.specs.Prelude.{All, Contains, slice_get}
+use Rattle.std.proofs.Common.{◌≡◌, ℕ, zero, suc, ◌+◌, ◌-◌, ◌<◌, ◌≤◌, List, [], ◌∷◌, ◌++◌, Option, None, Some, Result, Ok, Err, length, map, take, get_or, filter, not, is_some, true, false, inl, inr, refl, sym, ap, subst, ◌∙◌, append_assoc, arith, length-append}
+use Rattle.std.specs.Prelude.{All, Contains, IfOk, slice_get}
 use Rattle.std.specs.Option.{option_map_or, option_map, IfSome}
-use Rattle.std.proofs.lemmas.List.{append-nil, take_all, length-map, length-take-le, take-append-le, take-take, take_more}
+use Rattle.std.proofs.lemmas.List.{append-nil, take_all, length-map, length-take-le, map-append, take-append-le, take-map, take-take, take_more}
 use Rattle.std.proofs.Math.Seq.{take-append-add}
 use Rattle.std.proofs.lemmas.Bool.{cases_lt}
 use Rattle.std.proofs.lemmas.Option.{slice_get-map, slice_get_within, get_or_from_slice_get, slice_get-get_or}
-use Rattle.std.proofs.lemmas.List.Elements.{All-nil, All-head, All-tail, Contains-get_or, Contains-append_left, Contains-append_right}
+use Rattle.std.proofs.lemmas.List.Elements.{All-nil, All-head, All-tail, All-take, Contains-get_or, Contains-append_left, Contains-append_right}
 use Rattle.dl_base.specs.Paths.{IsDistinct, IsPath, HasCycle}
 use Rattle.dl_base.proofs.Distinct.{distinct_push, distinct_apart}
 use Rattle.dl_base.proofs.Members.{Contains-mapped}
@@ -20,7 +20,8 @@ use Rattle.dl_theory.specs.declared.superiority.PairRefused.{PairRefused}
 use Rattle.dl_theory.specs.Lists.{IsAbove}
 use Rattle.dl_theory.specs.Pairs.{pair_eq, pair_eq-Decides, named, IsWithin, IsNumbered, IsNumberOf}
 use Rattle.dl_theory.specs.Superiority.{moved_back, IsFree, AreFree, IsCause, AddsUpTo, AddsAll, IsLinkCause, OrdersAll}
-use Rattle.dl_theory.proofs.Numbers.{numbered_push, numbered_taken, not_closing, old_link, path_named, without_pushed}
+use Rattle.dl_theory.proofs.Extending.{ordered_all}
+use Rattle.dl_theory.proofs.Numbers.{numbered_push, not_closing, old_link, path_named, without_pushed}
 
 -- pairs whose numbers may be added one after another may be added so
 free_all : (items : List (List ℕ)) (links news : List Link) (pairs : List Pair) → IsNumbered items links pairs → All (IsWithin items) news
@@ -36,12 +37,6 @@ free_all items links (l ∷ news) pairs h w a =
           (All-tail (IsWithin items) l news w) a.1,
     )
 
-pub free_from_addable : (items : List (List ℕ)) (links : List Link) (pairs : List Pair) → IsNumbered items links pairs → AreAddable [] links
-    → AreFree [] pairs
-free_from_addable items links pairs h a =
-    subst (λ (ps : List Pair). AreFree [] ps) (sym h.names)
-    (free_all items [] links [] (record { distinct = h.distinct; within = All-nil (IsWithin items); names = refl }) h.within a)
-
 pub free_distinct : (old ps : List Pair) → IsDistinct old → AreFree old ps → IsDistinct (old ++ ps)
 free_distinct old [] h a = subst (λ (l : List Pair). IsDistinct l) (sym (append-nil old)) h
 free_distinct old (p ∷ ps) h a =
@@ -54,62 +49,90 @@ pub record IsLoaded (items : List (List ℕ)) (order : List Link) (pairs : List 
   pub numbered : IsNumbered items order (take kept pairs)
   pub adds : AddsAll [] (take kept pairs) pairs refused
 
+cause_named : (items : List (List ℕ)) (links : List Link) (l : Link) (ps : List Pair) → IsNumbered items links ps → IsWithin items l → (cause : PairCause)
+    → IsLinkCause items links l cause → IsCause ps (named items l) cause
+cause_named items links l ps k within There c =
+    subst (λ (qs : List Pair). Contains qs (named items l)) (sym k.names) (Contains-mapped (named items) links l c)
+cause_named items links l ps k within (Cycle path) c =
+    let number : IsNumberOf items l (named items l) = record { within = within; names = refl } in (
+      λ m. c.0 (old_link items links ps k l (named items l) number m),
+      subst (λ (ls : List (List ℕ)). IsPath (IsAbove ps) (named items l).lower (named items l).upper ls) (sym c.1.named)
+          (path_named items links ps k l (named items l) number c.1.track c.1.leads),
+    )
+cause_named items links l ps k within Full c = absurd c
+
+-- what was added of pairs of numbers, as pairs of labels
+module _ (items : List (List ℕ)) (distinct : IsDistinct items) (old new links : List Link) (before : All (IsWithin items) old)
+    (within : All (IsWithin items) links) where
+  numbered_all : (ls : List Link) → All (IsWithin items) ls → IsNumbered items ls (map (named items) ls)
+  numbered_all ls w = record { distinct = distinct; within = w; names = refl }
+
+  pub adds_named : (refused : Option PairRefused) → OrdersAll items old new links refused
+      → AddsAll (map (named items) old) (map (named items) new) (map (named items) links) refused
+  adds_named None o = (
+    free_all items old links (map (named items) old) (numbered_all old before) within o.0,
+    ap (map (named items)) o.1 ∙ map-append (named items) old links,
+  )
+  adds_named (Some r) o =
+      let front : take r.at (map (named items) links) ≡ map (named items) (take r.at links) = take-map (named items) r.at links in
+      let now : All (IsWithin items) new = ordered_all old new links items (IsWithin items) (Some r) o before within in
+      let here : IsWithin items o.refused =
+      subst (λ (l : Link). IsWithin items l) (get_or_from_slice_get links r.at o.refused o.refused o.stands)
+      (within r.at o.refused (slice_get_within links r.at o.refused o.stands)) in
+      record {
+        refused = named items o.refused;
+        stands = slice_get-map (named items) links r.at ∙ ap (option_map (named items)) o.stands;
+        front =
+            subst (λ (ps : List Pair). AreFree (map (named items) old) ps) (sym front)
+            (free_all items old (take r.at links) (map (named items) old) (numbered_all old before) (All-take (IsWithin items) r.at links within) o.front);
+        added =
+            ap (map (named items)) o.added
+            ∙ map-append (named items) old (take r.at links)
+            ∙ ap (λ (ps : List Pair). map (named items) old ++ ps) (sym front);
+        cause = cause_named items new o.refused (map (named items) new) (numbered_all new now) here r.cause o.cause;
+      }
+
+  pub adds_named_if : {E : Type 0} (r : Result (Option PairRefused) E) → IfOk r (OrdersAll items old new links)
+      → IfOk r (AddsAll (map (named items) old) (map (named items) new) (map (named items) links))
+  adds_named_if (Ok refused) o = adds_named refused o
+  adds_named_if (Err e) o = tt
+
 module _ (items : List (List ℕ)) (order links : List Link) (pairs : List Pair) (h : IsNumbered items links pairs) where
-  cause_named : (l : Link) (ps : List Pair) → IsNumbered items order ps → IsWithin items l → (cause : PairCause)
-      → IsLinkCause items order l cause → IsCause ps (named items l) cause
-  cause_named l ps k within There c =
-      subst (λ (qs : List Pair). Contains qs (named items l)) (sym k.names) (Contains-mapped (named items) order l c)
-  cause_named l ps k within (Cycle path) c =
-      let number : IsNumberOf items l (named items l) = record { within = within; names = refl } in (
-        λ m. c.0 (old_link items order ps k l (named items l) number m),
-        subst (λ (ls : List (List ℕ)). IsPath (IsAbove ps) (named items l).lower (named items l).upper ls) (sym c.1.named)
-            (path_named items order ps k l (named items l) number c.1.track c.1.leads),
+  kept_named : (refused : Option PairRefused) (kept : ℕ) → kept ≡ option_map_or (λ r. r.at) refused (length pairs)
+      → OrdersAll items [] order links refused → (kept ≤ length pairs) × (take kept pairs ≡ map (named items) order)
+  kept_named None kept e o =
+      (omega (arith, e), take_all kept pairs (omega (arith, e)) ∙ h.names ∙ ap (map (named items)) (sym o.1))
+  kept_named (Some r) kept e o =
+      let same_len : length pairs ≡ length links = ap length h.names ∙ length-map links (named items) in
+      let before : r.at < length links = slice_get_within links r.at o.refused o.stands in (
+        omega (arith, e, before, same_len),
+        ap (λ n. take n pairs) e ∙ ap (take r.at) h.names ∙ take-map (named items) r.at links ∙ ap (map (named items)) (sym o.added),
       )
-  cause_named l ps k within Full c = absurd c
 
   pub loaded : (refused : Option PairRefused) (kept : ℕ) → kept ≡ option_map_or (λ r. r.at) refused (length pairs)
-      → OrdersAll items order links refused → IsLoaded items order pairs refused kept
-  loaded None kept e o =
-      let all : take kept pairs ≡ pairs = take_all kept pairs (omega (arith, e)) in
-      let free : AreFree [] pairs = free_from_addable items links pairs h o.0 in
+      → OrdersAll items [] order links refused → IsLoaded items order pairs refused kept
+  loaded refused kept e o =
+      let front = kept_named refused kept e o in
       record {
-        within = omega (arith, e);
-        numbered =
-            subst (λ (ps : List Pair). IsNumbered items order ps) (sym all)
-            (subst (λ (ls : List Link). IsNumbered items ls pairs) (sym o.1) h);
-        adds = (free, all);
-      }
-  loaded (Some r) kept e o =
-      let same_len : length pairs ≡ length links = ap length h.names ∙ length-map links (named items) in
-      let before : r.at < length links = slice_get_within links r.at o.refused o.stands in
-      let taken : IsNumbered items (take r.at links) (take r.at pairs) = numbered_taken items links pairs h r.at in
-      let here : take kept pairs ≡ take r.at pairs = ap (λ n. take n pairs) e in
-      let numbered : IsNumbered items order (take r.at pairs) =
-      subst (λ (ls : List Link). IsNumbered items ls (take r.at pairs)) (sym o.ordered) taken in
-      let free : AreFree [] (take r.at pairs) = free_from_addable items (take r.at links) (take r.at pairs) taken o.front in
-      let within : IsWithin items o.refused =
-      subst (λ (l : Link). IsWithin items l) (get_or_from_slice_get links r.at o.refused o.refused o.stands) (h.within r.at o.refused before) in
-      record {
-        within = omega (arith, e, before, same_len);
-        numbered = subst (λ (ps : List Pair). IsNumbered items order ps) (sym here) numbered;
-        adds = record {
-          refused = named items o.refused;
-          stands = ap (λ ps. slice_get ps r.at) h.names ∙ slice_get-map (named items) links r.at ∙ ap (option_map (named items)) o.stands;
-          front = free;
-          added = here;
-          cause =
-              subst (λ (ps : List Pair). IsCause ps (named items o.refused) r.cause) (sym here)
-              (cause_named o.refused (take r.at pairs) numbered within r.cause o.cause);
+        within = front.0;
+        numbered = record {
+          distinct = h.distinct;
+          within = ordered_all [] order links items (IsWithin items) refused o (All-nil (IsWithin items)) h.within;
+          names = front.1;
         };
+        adds =
+            subst (λ (ps : List Pair). AddsAll [] ps pairs refused) (sym front.1)
+            (subst (λ (ps : List Pair). AddsAll [] (map (named items) order) ps refused) (sym h.names)
+            (adds_named items h.distinct [] order links (All-nil (IsWithin items)) h.within refused o));
       }
 
   pub loaded_as : (refused : Option PairRefused) (kept : ℕ) (same_items : List (List ℕ)) (same_links : List Link)
       → kept ≡ option_map_or (λ r. r.at) refused (length pairs) → same_items ≡ items → same_links ≡ links
-      → OrdersAll same_items order same_links refused → IsLoaded items order pairs refused kept
+      → OrdersAll same_items [] order same_links refused → IsLoaded items order pairs refused kept
   loaded_as refused kept same_items same_links e is_items is_links o =
       loaded refused kept e
-      (subst (λ (ls : List (List ℕ)). OrdersAll ls order links refused) is_items
-      (subst (λ (ls : List Link). OrdersAll same_items order ls refused) is_links o))
+      (subst (λ (ls : List (List ℕ)). OrdersAll ls [] order links refused) is_items
+      (subst (λ (ls : List Link). OrdersAll same_items [] order ls refused) is_links o))
 
 slice_get-append_left : (xs ys : List Pair) (i : ℕ) → i < length xs → slice_get (xs ++ ys) i ≡ slice_get xs i
 slice_get-append_left [] ys i h = absurd (omega (arith, h))
@@ -238,30 +261,40 @@ module _ (old pairs new : List Pair) (room : ℕ) (within : room < length pairs)
       let front : length (take r.at (take (room + 1) pairs)) ≡ r.at = length-take-le r.at (take (room + 1) pairs) (omega (arith, before)) in
       omega (arith, ap length u.added, length-append old (take r.at (take (room + 1) pairs)), front, before, size)
 
-  pub full_behind : (p : Pair) → p ≡ get_or pairs room p → (AreFree old (take (room + 1) pairs) × (new ≡ old ++ take (room + 1) pairs))
-      → (left : List Pair) → left ≡ filter (λ q. not (pair_eq q p)) new → 1000000 ≤ length old + room
-      → AddsUpTo old left pairs room Full × (left ≡ old ++ take room pairs)
-  full_behind p is a left without full =
+  -- the last one is taken out again
+  pub left_behind : (p : Pair) → p ≡ get_or pairs room p → (AreFree old (take (room + 1) pairs) × (new ≡ old ++ take (room + 1) pairs))
+      → (left : List Pair) → left ≡ filter (λ q. not (pair_eq q p)) new → left ≡ old ++ take room pairs
+  left_behind p is a left without =
       let more : take (room + 1) pairs ≡ take room pairs ++ p ∷ [] = take_more pairs room p within ∙ ap (λ q. take room pairs ++ q ∷ []) (sym is) in
-      let front : AreFree old (take room pairs ++ p ∷ []) = subst (λ (l : List Pair). AreFree old l) more a.0 in
-      let last = free_cut old (take room pairs) (p ∷ []) front in
+      let last = free_cut old (take room pairs) (p ∷ []) (subst (λ (l : List Pair). AreFree old l) more a.0) in
       let all : new ≡ (old ++ take room pairs) ++ p ∷ [] =
       a.1 ∙ ap (λ l. old ++ l) more ∙ sym (append_assoc old (take room pairs) (p ∷ [])) in
-      let back : left ≡ old ++ take room pairs =
-      without ∙ ap (filter (λ q. not (pair_eq q p))) all ∙ without_pushed pair_eq pair_eq-Decides (old ++ take room pairs) p last.0.0 in
-      let size : length (old ++ take room pairs) ≡ length old + room =
-      length-append old (take room pairs) ∙ ap (λ n. length old + n) (length-take-le room pairs (omega (arith, within))) in (
-        record {
-          refused = p;
-          stands = slice_get-get_or pairs room p within ∙ ap Some (sym is);
-          front = free_left old (take room pairs) (p ∷ []) front;
-          added = back;
-          cause = subst (λ (l : List Pair). IsCause l p Full) (sym back) (last.0, omega (arith, size, full));
-        },
-        back,
-      )
+      without ∙ ap (filter (λ q. not (pair_eq q p))) all ∙ without_pushed pair_eq pair_eq-Decides (old ++ take room pairs) p last.0.0
 
--- as full_behind, where the last one was refused before
+  -- or the list is cut before it
+  pub cut_behind : (n : ℕ) → n ≡ length old + room → take n (old ++ take (room + 1) pairs) ≡ old ++ take room pairs
+  cut_behind n e =
+      ap (λ k. take k (old ++ take (room + 1) pairs)) e
+      ∙ take-append-add old (take (room + 1) pairs) room
+      ∙ ap (λ l. old ++ l) (take-take room (room + 1) pairs (omega arith))
+
+  pub full_behind : (p : Pair) → p ≡ get_or pairs room p → AreFree old (take (room + 1) pairs) → (left : List Pair)
+      → left ≡ old ++ take room pairs → 1000000 ≤ length old + room → AddsUpTo old left pairs room Full
+  full_behind p is a left back full =
+      let more : take (room + 1) pairs ≡ take room pairs ++ p ∷ [] = take_more pairs room p within ∙ ap (λ q. take room pairs ++ q ∷ []) (sym is) in
+      let front : AreFree old (take room pairs ++ p ∷ []) = subst (λ (l : List Pair). AreFree old l) more a in
+      let last = free_cut old (take room pairs) (p ∷ []) front in
+      let size : length (old ++ take room pairs) ≡ length old + room =
+      length-append old (take room pairs) ∙ ap (λ n. length old + n) (length-take-le room pairs (omega (arith, within))) in
+      record {
+        refused = p;
+        stands = slice_get-get_or pairs room p within ∙ ap Some (sym is);
+        front = free_left old (take room pairs) (p ∷ []) front;
+        added = back;
+        cause = subst (λ (l : List Pair). IsCause l p Full) (sym back) (last.0, omega (arith, size, full));
+      }
+
+-- where one of the first was refused, none was too many
 pub within_added : (old pairs new : List Pair) (room : ℕ) → room < length pairs → (refused : Option PairRefused) → is_some refused ≡ true
     → AddsAll old new (take (room + 1) pairs) refused → AddsAll old new pairs refused × (length new ≤ length old + room)
 within_added old pairs new room within None some a = cc

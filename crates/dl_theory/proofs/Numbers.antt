@@ -1,5 +1,5 @@
 -- Pairs of labels by pairs of numbers: what holds of the ones holds of the others.
-use Rattle.std.proofs.Common.{◌≡◌, ℕ, ◌<◌, ◌≤◌, ◌==◌, Bool, true, cond, not, ◌&&◌, ◌||◌, List, [], ◌∷◌, ◌++◌, Result, Ok, Err, get_or, length, map, take, filter, inl, inr, refl, sym, ap, subst, ◌∙◌, arith}
+use Rattle.std.proofs.Common.{◌≡◌, ℕ, ◌<◌, ◌≤◌, ◌==◌, Bool, true, cond, not, ◌&&◌, ◌||◌, List, [], ◌∷◌, ◌++◌, Result, Ok, Err, get_or, length, map, filter, inl, inr, refl, sym, ap, subst, ◌∙◌, arith}
 use Rattle.std.specs.Prelude.{All, Contains, OnOk, OnErr}
 use Rattle.std.specs.List.{position_or_len}
 use Rattle.std.specs.Bool.{Decides}
@@ -7,21 +7,22 @@ use Rattle.std.specs.Str.{bytes_eq}
 use Rattle.std.proofs.lemmas.Bool.{cases_lt}
 use Rattle.std.proofs.lemmas.Bool.Decides.{same_from_decides, Decides-and, Decides-like, Decides-eqb}
 use Rattle.std.proofs.lemmas.Slice.Eq.{bytes_eq-Decides}
-use Rattle.std.proofs.lemmas.List.{get_or_append_left, take-map, map-append, length-append, append-nil}
+use Rattle.std.proofs.lemmas.List.{get_or_append_left, get_or-map, map-append, length-append, length-map, append-nil}
 use Rattle.std.proofs.lemmas.List.Sums.{position_or_len_is}
-use Rattle.std.proofs.lemmas.List.Elements.{All-push, All-take, All-weaker, All-filter, All-contains, All-contains_itself, Contains-get_or, filter-append}
-use Rattle.dl_base.specs.Paths.{IsDistinct, IsPath}
+use Rattle.std.proofs.lemmas.List.Elements.{All-push, All-weaker, All-filter, All-contains, All-contains_itself, Contains-get_or, filter-append}
+use Rattle.dl_base.specs.Paths.{IsDistinct, IsPath, HasCycle}
 use Rattle.dl_base.proofs.Members.{all_more, Contains-mapped, mapped_from, map_agree}
 use Rattle.dl_base.proofs.Filters.{filter_all, filter_mapped, false_unless}
 use Rattle.dl_base.proofs.PathLemmas.{path_mapped, path_known}
 use Rattle.dl_sup.specs.declared.link.Link.{Link}
 use Rattle.dl_sup.specs.declared.stop.NoPair.{NoPair}
-use Rattle.dl_sup.specs.Links.{IsOver, link, names_item, same_link}
+use Rattle.dl_sup.specs.Links.{IsOver, IsOrder, link, names_item, same_link}
 use Rattle.dl_sup.specs.Adding.{ClosesCycle}
 use Rattle.dl_theory.specs.declared.rule.Pair.{Pair}
 use Rattle.dl_theory.specs.declared.superiority.PairStop.{PairStop}
 use Rattle.dl_theory.specs.declared.superiority.PairStop.TheVariants.{Cycle, Full, Memory}
 use Rattle.dl_theory.specs.Lists.{IsAbove}
+use Rattle.dl_theory.specs.Edits.{AreThere}
 use Rattle.dl_theory.specs.Superiority.{IsLinkStop, IsPairStop}
 use Rattle.dl_theory.specs.Pairs.{pair_eq, Closes, label_at, named, IsWithin, IsNumbered, IsNumberOf}
 
@@ -80,6 +81,13 @@ module _ (items more : List (List ℕ)) where
         (All-weaker (IsWithin items) (λ l. named items l ≡ named (items ++ more) l)
         (λ l w i. record { upper = sym (same_label l.upper w.0) i; lower = sym (same_label l.lower w.1) i }) links h.within);
   }
+
+-- a pair that has numbers has its labels among the items
+pub has_labels : (items : List (List ℕ)) (l : Link) (p : Pair) → IsNumberOf items l p → AreThere items p
+has_labels items l p number = (
+  subst (λ (x : List ℕ). Contains items x) (ap (λ q. q.upper) number.names) (Contains-get_or items l.upper [] number.within.0),
+  subst (λ (x : List ℕ). Contains items x) (ap (λ q. q.lower) number.names) (Contains-get_or items l.lower [] number.within.1),
+)
 
 module _ (items : List (List ℕ)) (links : List Link) (pairs : List Pair) (h : IsNumbered items links pairs) where
   over_above : (x y : ℕ) → IsOver links x y → IsAbove pairs (label_at items x) (label_at items y) × (y < length items)
@@ -186,12 +194,25 @@ module _ (items : List (List ℕ)) (links : List Link) (pairs : List Pair) (h : 
           ∙ sym (map-append (named items) links (l ∷ []));
     }
 
-  -- the first of both
-  pub numbered_taken : (n : ℕ) → IsNumbered items (take n links) (take n pairs)
-  numbered_taken n = record {
-    distinct = h.distinct;
-    within = All-take (IsWithin items) n links h.within;
-    names = ap (take n) h.names ∙ take-map (named items) n links;
+  -- pairs of numbers are an order where their pairs of labels are distinct and without cycles
+  pub order_numbered : IsDistinct pairs → (¬ HasCycle (IsAbove pairs)) → IsOrder links
+  order_numbered distinct acyclic = record {
+    distinct = λ i j d before within.
+        λ e. subst (λ (ps : List Pair). IsDistinct ps) h.names distinct i j (named items d) before (omega (arith, within, length-map links (named items)))
+        (get_or-map (named items) links i d (named items d) (omega (arith, before, within))
+        ∙ ap (named items) e
+        ∙ sym (get_or-map (named items) links j d (named items d) within));
+    acyclic = λ c.
+        let closing = over_above c.last c.first c.closes in
+        acyclic (record {
+          first = label_at items c.first;
+          last = label_at items c.last;
+          path = map (label_at items) c.path;
+          is_path =
+              path_mapped (IsOver links) (IsAbove pairs) (label_at items) (λ n. n < length items) over_above (same_number items h.distinct)
+              c.first c.last c.path closing.1 c.is_path;
+          closes = closing.0;
+        });
   }
 
   -- fewer of both

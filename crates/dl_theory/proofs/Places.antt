@@ -1,10 +1,18 @@
 -- The place of a value in a list, and a removed value.
 use Rattle.std.proofs.Common.{◌≡◌, ℕ, Bool, true, false, not, List, Option, Some, None, get_or, position, is_some, refl, sym, ap, ◌∙◌, true≢false}
 use Rattle.std.specs.Prelude.{Contains, IfSome}
+use Rattle.std.specs.List.{IsDistinct as IsUnlike}
 use Rattle.std.specs.Bool.{Decides}
 use Rattle.std.specs.Set.{is_member}
 use Rattle.std.proofs.lemmas.List.Quantifiers.{position-Some}
 use Rattle.std.proofs.lemmas.Map.Made.{is_member-Decides}
+use Rattle.std.proofs.lemmas.Map.Keys.{apart_from_distinct}
+use Rattle.dl_base.specs.Paths.{IsDistinct}
+
+-- a set of keys has none twice
+pub keys_distinct : {X : Type 0} (eq : X → X → Bool) → ((a b : X) → Decides (eq a b) (a ≡ b)) → (xs : List X) → IsUnlike eq xs → IsDistinct xs
+keys_distinct eq same xs h = λ i j d before within e.
+    true≢false (sym ((same (get_or xs i d) (get_or xs j d)).1 e) ∙ apart_from_distinct eq xs i j d h before within)
 
 module _ {X : Type 0} (eq : X → X → Bool) (same : (a b : X) → Decides (eq a b) (a ≡ b)) (xs : List X) (x : X) where
   pub place_has : (place : Option ℕ) (d : X) → place ≡ position (eq x) xs → IfSome place (λ at. get_or xs at d ≡ x)

@@ -6,7 +6,6 @@ pub mod Verdicts
 pub mod Pairs
 pub mod Superiority
 pub mod KeptPairs
-pub mod PairRules
 pub mod Edits
 pub mod Refusals
 pub mod Cones

@@ -1,7 +1,9 @@
 -- How the fields of a superiority hold its pairs, and why a pair is not added.
-use Rattle.std.specs.Prelude.{◌≡◌, ℕ, ◌-◌, ◌≤◌, List, [], ◌∷◌, ◌++◌, Option, None, Some, Contains, length, map, take, slice_get}
+use Rattle.std.specs.Prelude.{◌≡◌, ℕ, ◌-◌, ◌<◌, ◌≤◌, List, [], ◌∷◌, ◌++◌, Option, None, Some, Result, Ok, Err, All, Contains, length, map, take, slice_get}
 use Rattle.dl_base.specs.Paths.{IsPath}
 use Rattle.dl_sup.specs.declared.link.Link.{Link}
+use Rattle.dl_sup.specs.declared.stop.LoadStop.{LoadStop}
+use Rattle.dl_sup.specs.declared.stop.LoadStop.TheVariants as load_stop
 use Rattle.dl_sup.specs.Links.{IsOver}
 use Rattle.dl_sup.specs.Adding.{AreAddable}
 use Rattle.dl_theory.specs.declared.rule.Pair.{Pair}
@@ -68,15 +70,28 @@ IsLinkCause items links l pair_cause.There = Contains links l
 IsLinkCause items links l (pair_cause.Cycle path) = (¬ Contains links l) × IsNamedTrack items links l path
 IsLinkCause items links l pair_cause.Full = ⊥
 
--- the pairs of numbers before a place are in an order, and the one at it is refused
-pub record OrdersUpTo (items : List (List ℕ)) (order links : List Link) (at : ℕ) (why : PairCause) : Type 0 where
+-- the pairs of numbers before a place were added, and the one at it is refused
+pub record OrdersUpTo (items : List (List ℕ)) (old new links : List Link) (at : ℕ) (why : PairCause) : Type 0 where
   pub refused : Link
   pub stands : slice_get links at ≡ Some refused
-  pub front : AreAddable [] (take at links)
-  pub ordered : order ≡ take at links
-  pub cause : IsLinkCause items order refused why
+  pub front : AreAddable old (take at links)
+  pub added : new ≡ old ++ take at links
+  pub cause : IsLinkCause items new refused why
 
--- an order of all pairs of numbers, or of those before the first that is refused
-abbrev pub OrdersAll : List (List ℕ) → List Link → List Link → Option PairRefused → Type 0
-OrdersAll items order links None = AreAddable [] links × (order ≡ links)
-OrdersAll items order links (Some r) = OrdersUpTo items order links r.at r.cause
+-- all pairs of numbers were added, or those before the first that is refused
+abbrev pub OrdersAll : List (List ℕ) → List Link → List Link → List Link → Option PairRefused → Type 0
+OrdersAll items old new links None = AreAddable old links × (new ≡ old ++ links)
+OrdersAll items old new links (Some r) = OrdersUpTo items old new links r.at r.cause
+
+-- the numbers of a track are those of labels
+abbrev pub StopsWithin : List (List ℕ) → LoadStop → Type 0
+StopsWithin items (load_stop.Cycle at track) = All (λ n. n < length items) track
+StopsWithin items _ = Unit {0}
+
+-- the same refusal, in labels
+abbrev pub IsRefusedAs : List (List ℕ) → Result (Unit {0}) LoadStop → Option PairRefused → Type 0
+IsRefusedAs items (Ok u) refused = refused ≡ None
+IsRefusedAs items (Err (load_stop.There at)) refused = refused ≡ Some (record { at = at; cause = pair_cause.There })
+IsRefusedAs items (Err (load_stop.Cycle at track)) refused =
+    refused ≡ Some (record { at = at; cause = pair_cause.Cycle (map (label_at items) track) })
+IsRefusedAs items (Err load_stop.Memory) refused = ⊥

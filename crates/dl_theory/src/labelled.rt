@@ -1,14 +1,16 @@
 //! Pairs and the labels of rules: which are there, which is missing, and what comes of that.
 
-ghost use Rattle.std.specs.Prelude.{◌≡◌, ◌<◌, [], IfOk, IfSome, IfNone, MatchOption, length, slice_index_or};
+ghost use Rattle.std.specs.Prelude.{◌≡◌, All, IfOk, IfSome, IfNone, length, map, take};
 ghost use Rattle.dl_theory.specs.Edits.{AreThere, IsFront, IsMissing};
+ghost use Rattle.dl_theory.specs.Pairs.{named, IsWithin, IsNumberOf};
 ghost use Rattle.dl_theory.specs.Refusals.{refusal_of, outcome_of};
 
 use crate::edit::{EditRefusal, PairsStop};
 use crate::labels::{holds_label, place_near, place_of};
 use crate::rule::Pair;
-use crate::superiority::{PairCause, PairHint, PairRefused};
+use crate::superiority::{PairCause, PairRefused};
 use dl_lit::{Memory, Name, NameSet};
+use dl_sup::Link;
 use std::alloc::Global;
 
 /// The places of the labels of the pairs before the first that misses one, and what that one misses.
@@ -16,38 +18,33 @@ pub(crate) fn labelled_front(
     alloc: Global,
     labels: &NameSet<Name>,
     pairs: &[Pair],
-) -> Result<(Vec<PairHint>, Option<EditRefusal>), Memory>
-    ensures { IfOk result (λ r. IsFront labels.now.keys pairs.now (length r.0.items) r.1) }
+) -> Result<(Vec<Link>, Option<EditRefusal>), Memory>
+    ensures front { IfOk result (λ r. IsFront labels.now.keys pairs.now (length r.0.items) r.1) }
+    ensures within { IfOk result (λ r. All (IsWithin labels.now.keys) r.0.items) }
+    ensures named { IfOk result (λ r. map (named labels.now.keys) r.0.items ≡ take (length r.0.items) pairs.now) }
 {
-    let mut hints = Vec::with_capacity(alloc, pairs.len())?;
+    let mut links = Vec::with_capacity(alloc, pairs.len())?;
     for pair in pairs {
-        match hint_of(labels, pair) {
-            None => return Ok((hints, Some(missing_label(labels, pair)?))),
-            Some(hint) => hints.push(hint)?,
+        match link_of(labels, pair) {
+            None => return Ok((links, Some(missing_label(labels, pair)?))),
+            Some(link) => links.push(link)?,
         }
     }
-    Ok((hints, None))
+    Ok((links, None))
 }
 
 /// The places of both labels of a pair, if both are there.
-fn hint_of(labels: &NameSet<Name>, pair: &Pair) -> Option<PairHint>
-    ensures { MatchOption result (¬ AreThere labels.now.keys pair.now) (λ _. AreThere labels.now.keys pair.now) }
+pub(crate) fn link_of(labels: &NameSet<Name>, pair: &Pair) -> Option<Link>
+    ensures number { IfSome result (λ l. IsNumberOf labels.now.keys l pair.now) }
+    ensures absent { IfNone result (¬ AreThere labels.now.keys pair.now) }
 {
     match place_of(labels, &pair.upper) {
         None => None,
         Some(upper) => match place_of(labels, &pair.lower) {
             None => None,
-            Some(lower) => Some(PairHint {
-                upper: narrow(upper),
-                lower: narrow(lower),
-            }),
+            Some(lower) => Some(Link { upper, lower }),
         },
     }
-}
-
-/// A place in the width of a hint. One that is too large comes as another, which is tried in vain.
-pub(crate) fn narrow(place: usize) -> u32 {
-    u32::try_from(place).unwrap_or(0)
 }
 
 fn missing_label(labels: &NameSet<Name>, pair: &Pair) -> Result<EditRefusal, Memory>
@@ -61,20 +58,15 @@ fn missing_label(labels: &NameSet<Name>, pair: &Pair) -> Result<EditRefusal, Mem
 }
 
 /// The places of both labels of a pair, if both are there. Those of the hint are tried first.
-pub(crate) fn places_near(
-    labels: &NameSet<Name>,
-    pair: &Pair,
-    hint: PairHint,
-) -> Option<(usize, usize)>
-    ensures upper { IfSome result (λ r. r.0 < length labels.now.keys × (slice_index_or labels.now.keys r.0 [] ≡ pair.now.upper)) }
-    ensures lower { IfSome result (λ r. r.1 < length labels.now.keys × (slice_index_or labels.now.keys r.1 [] ≡ pair.now.lower)) }
+pub(crate) fn link_near(labels: &NameSet<Name>, pair: &Pair, hint: Link) -> Option<Link>
+    ensures number { IfSome result (λ l. IsNumberOf labels.now.keys l pair.now) }
     ensures absent { IfNone result (¬ AreThere labels.now.keys pair.now) }
 {
-    match place_near(labels, &pair.upper, hint.upper as usize) {
+    match place_near(labels, &pair.upper, hint.upper) {
         None => None,
-        Some(upper) => match place_near(labels, &pair.lower, hint.lower as usize) {
+        Some(upper) => match place_near(labels, &pair.lower, hint.lower) {
             None => None,
-            Some(lower) => Some((upper, lower)),
+            Some(lower) => Some(Link { upper, lower }),
         },
     }
 }

@@ -4,16 +4,17 @@ ghost use Rattle.std.specs.Prelude.{◌≡◌, [], ◌∷◌, ◌++◌, ◌↔�
 
 use dl_lit::{Memory, Name, NameSet};
 
+/// Whether a label is in a set.
 #[inline(always)]
-pub(crate) fn holds_label(labels: &NameSet<Name>, label: &Name) -> bool
+pub fn holds_label(labels: &NameSet<Name>, label: &Name) -> bool
     ensures { IsTrue result ↔ Contains labels.now.keys label.now }
 {
     labels.contains(label)
 }
 
-/// Adds a label at the end where it is new, and tells whether it is.
+/// Adds a label at the end where it is new, and tells whether it is. `Memory` leaves the set as it was.
 #[inline(always)]
-pub(crate) fn insert_label(labels: &mut NameSet<Name>, label: Name) -> Result<bool, Memory>
+pub fn insert_label(labels: &mut NameSet<Name>, label: Name) -> Result<bool, Memory>
     ensures new { IfOk result (λ new. (new ≡ false) ↔ Contains labels.old.keys label) }
     ensures keys { IfOk result (λ new. labels.new.keys ≡ labels.old.keys ++ (if new then label ∷ [] else [])) }
     ensures err { OnErr result (labels.new.keys ≡ labels.old.keys) }

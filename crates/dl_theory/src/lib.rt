@@ -17,6 +17,7 @@ mod laws;
 mod lists;
 mod loading;
 mod rule;
+mod rule_pairs;
 mod rules;
 mod superiority;
 #[cfg(test)]
@@ -25,9 +26,10 @@ mod theory;
 
 pub use answer::{Answer, Certificate, Verdict};
 pub use edit::{Edit, EditRefusal, EditStop, PairsStop};
+pub use labels::{holds_label, insert_label};
 pub use laws::{gaps_hold, is_coherent, is_consistent, is_inclusive, table_is_least};
 pub use lists::{Body, Path, TaggedList};
 pub use loading::Loading;
 pub use rule::{Kind, Pair, Rule};
-pub use superiority::Superiority;
-pub use theory::Theory;
+pub use rule_pairs::RulePairs;
+pub use theory::{LIMIT, Theory};

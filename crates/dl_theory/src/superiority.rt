@@ -1,21 +1,20 @@
 //! Pairs of labels without cycles, over an order of numbers.
 
-ghost use Rattle.std.specs.Prelude.{◌≡◌, [], ◌∷◌, ◌++◌, ◌↔◌, ◌<◌, ◌≤◌, ◌||◌, ◌-◌, ℕ, List, IsTrue, OnOk, OnErr, IfOk, IfErr, IfSome, IfNone, Contains, All, filter, not, map, length, slice_get};
+ghost use Rattle.std.specs.Prelude.{◌≡◌, [], ◌∷◌, ◌++◌, ◌↔◌, ◌<◌, ◌≤◌, ◌||◌, ◌-◌, ℕ, List, IsTrue, OnOk, OnErr, IfOk, IfErr, IfSome, Contains, All, filter, not, map, length, slice_get};
 ghost use Rattle.std.specs.Option.{option_copied};
 ghost use Rattle.std.specs.Str.{bytes_eq};
 ghost use Rattle.dl_base.specs.Paths.{IsDistinct, HasCycle};
-ghost use Rattle.dl_theory.specs.Edits.{after_edits, additions, AreAccepted, IsPairsStop};
+ghost use Rattle.dl_theory.specs.Edits.{after_edits, additions, AreAccepted, AreThere, IsPairsStop};
 ghost use Rattle.dl_theory.specs.Lists as lists;
 ghost use Rattle.dl_theory.specs.Lists.{TheoryLists, IsAbove, IsWellFormed};
-ghost use Rattle.dl_theory.specs.PairRules.{AreRulesOf};
 ghost use Rattle.dl_sup.specs.Links.{names_item};
 ghost use Rattle.dl_sup.specs.Adding.{ClosesCycle};
-ghost use Rattle.dl_theory.specs.Pairs.{pair_eq, Closes, label_at, IsWithin, IsNumbered, IsNumberOf};
-ghost use Rattle.dl_theory.specs.Superiority.{IsPairStop, IsLinkStop, AddsAll, OrdersAll, moved_back};
+ghost use Rattle.dl_theory.specs.Pairs.{pair_eq, Closes, label_at, named, IsWithin, IsNumbered, IsNumberOf};
+ghost use Rattle.dl_theory.specs.Superiority.{IsPairStop, IsLinkStop, AddsAll, OrdersAll, StopsWithin, IsRefusedAs, moved_back};
 ghost use Rattle.std.specs.Option.{option_map_or, option_map};
 
 use crate::edit::PairsStop;
-use crate::labelled::{labelled_front, narrow, outcome_of, places_near};
+use crate::labelled::{labelled_front, link_near, link_of, outcome_of};
 use crate::labels::{place_of, stands_at};
 use crate::lists::Path;
 use crate::rule::Pair;
@@ -25,15 +24,7 @@ use dl_sup::{Link, LoadStop, Order, SupStop};
 use std::alloc::Global;
 use std::marker::Model;
 
-/// The places that the rules of a pair had when it was added. They are tried first where these rules are sought, and nothing rests on
-/// them: a rule that was dropped since has moved others.
-#[derive(Clone, Copy)]
-pub(crate) struct PairHint {
-    pub upper: u32,
-    pub lower: u32,
-}
-
-const NO_HINT: PairHint = PairHint { upper: 0, lower: 0 };
+const NO_HINT: Link = Link { upper: 0, lower: 0 };
 
 /// Why a pair was not added whose labels are there and which is not in the list.
 #[derive(Drop)]
@@ -69,14 +60,15 @@ impl From<Memory> for PairStop {
     }
 }
 
-/// A list of pairs without cycles, for a theory or for whoever keeps the labels of its rules.
+/// A list of pairs without cycles.
 // Each label that ever stood in a pair has its place among the items, and the order has, for each pair, the places of its labels. So the
 // order tells whether a pair is in the list.
 #[derive(Drop)]
-pub struct Superiority {
+pub(crate) struct Superiority {
     pairs: Vec<Pair>,
-    /// For each pair its hint, a wrong one, or none.
-    hints: Vec<PairHint>,
+    /// The places that the rules of each pair had when it was added, or fewer. They are tried first where these rules are sought, and
+    /// nothing rests on them: a rule that was dropped since has moved others.
+    hints: Vec<Link>,
     items: NameSet<Name>,
     order: Order,
 }
@@ -117,7 +109,7 @@ impl Superiority {
         ensures kept { OnErr result (self.new ≡ self.old) }
     {
         let alloc = *self.pairs.allocator();
-        let link = number_pair(&mut self.items, &pair)?;
+        let link = number_pair(&mut self.items, &pair, NO_HINT)?;
         add_numbered(
             alloc,
             &mut self.pairs,
@@ -132,7 +124,7 @@ impl Superiority {
     pub(crate) fn load(
         alloc: Global,
         pairs: &[Pair],
-        hints: Vec<PairHint>,
+        hints: Vec<Link>,
     ) -> Result<(Superiority, Option<PairRefused>), Memory>
         ensures { IfOk result (λ r. AddsAll [] r.0 pairs.now r.1) }
     {
@@ -157,7 +149,7 @@ impl Superiority {
     pub(crate) fn add_all(
         &mut self,
         pairs: &[Pair],
-        hints: Vec<PairHint>,
+        hints: Vec<Link>,
     ) -> Result<Option<PairRefused>, Memory>
         requires distinct { IsDistinct self.old }
         requires acyclic { ¬ HasCycle (IsAbove self.old) }
@@ -174,7 +166,7 @@ impl Superiority {
     fn extended(
         &self,
         pairs: &[Pair],
-        hints: Vec<PairHint>,
+        hints: Vec<Link>,
     ) -> Result<(Superiority, Option<PairRefused>), Memory>
         requires distinct { IsDistinct self.now }
         requires acyclic { ¬ HasCycle (IsAbove self.now) }
@@ -196,7 +188,7 @@ impl Superiority {
     pub(crate) fn add_within_limit(
         &mut self,
         pairs: &[Pair],
-        hints: Vec<PairHint>,
+        hints: Vec<Link>,
     ) -> Result<Option<PairRefused>, Memory>
         requires distinct { IsDistinct self.old }
         requires acyclic { ¬ HasCycle (IsAbove self.old) }
@@ -219,7 +211,11 @@ impl Superiority {
     }
 
     /// Adds pairs to those of a theory whose rules have these labels, as adding them one by one, in order, up to the first that is refused.
-    pub fn add_labelled(&mut self, labels: &NameSet<Name>, pairs: &[Pair]) -> Result<(), PairsStop>
+    pub(crate) fn add_labelled(
+        &mut self,
+        labels: &NameSet<Name>,
+        pairs: &[Pair],
+    ) -> Result<(), PairsStop>
         requires distinct { IsDistinct self.old }
         requires acyclic { ¬ HasCycle (IsAbove self.old) }
         requires few { length self.old ≤ 1000000 }
@@ -305,21 +301,14 @@ impl Superiority {
         self.pairs.get(at)
     }
 
-    /// The places of the upper and the lower rule of the pair at a place, in a theory whose rules have these labels; `None` exactly past
-    /// the end.
-    pub fn rules_of(&self, labels: &NameSet<Name>, at: usize) -> Option<(usize, usize)>
-        ensures rules { (T : TheoryLists) → IsWellFormed T → lists.labels T ≡ labels.now.keys → T.pairs ≡ self.now
-            → IfSome result (λ r. AreRulesOf T at r.0 r.1) }
-        ensures past { (T : TheoryLists) → IsWellFormed T → lists.labels T ≡ labels.now.keys → T.pairs ≡ self.now
-            → IfNone result (length self.now ≤ at) }
+    /// The pairs by the places of their labels, all of which are there.
+    pub fn links(&self, labels: &NameSet<Name>) -> Result<Vec<Link>, Memory>
+        requires { All (AreThere labels.now.keys) self.now }
+        ensures within { IfOk result (λ links. All (IsWithin labels.now.keys) links.items) }
+        ensures named { IfOk result (λ links. self.now ≡ map (named labels.now.keys) links.items) }
     {
-        match self.get(at) {
-            None => None,
-            Some(pair) => {
-                let hint = hint_at(self.hints.as_slice(), at);
-                places_near(labels, pair, hint)
-            }
-        }
+        let alloc = *self.pairs.allocator();
+        links_near(alloc, labels, self.pairs.as_slice(), self.hints.as_slice())
     }
 
     /// The pairs, in order.
@@ -330,77 +319,50 @@ impl Superiority {
     }
 }
 
-/// The place of a label among the items, which may grow.
-fn number(items: &mut NameSet<Name>, label: &Name) -> Result<usize, Memory>
+/// The place of a label among the items, which may grow. One place is tried first, which may be any number.
+fn number(items: &mut NameSet<Name>, label: &Name, hint: usize) -> Result<usize, Memory>
     requires { IsDistinct items.old.keys }
     ensures distinct { IsDistinct items.new.keys }
     ensures grown { (more : List (List ℕ)) × (items.new.keys ≡ items.old.keys ++ more) }
     ensures within { IfOk result (λ n. n < length items.new.keys) }
     ensures names { IfOk result (λ n. label_at items.new.keys n ≡ label.now) }
 {
+    if stands_at(items, label, hint) {
+        return Ok(hint);
+    }
     let (at, _) = items.insert_full(label.copy()?)?;
     Ok(at)
 }
 
-/// The same. The number that the label of the rule at a place had last is tried first.
-fn number_near(
-    items: &mut NameSet<Name>,
-    known: &mut Vec<u32>,
-    label: &Name,
-    place: u32,
-) -> Result<usize, Memory>
+/// The places of both labels of a pair. Those of the hint are tried first.
+fn number_pair(items: &mut NameSet<Name>, pair: &Pair, hint: Link) -> Result<Link, Memory>
     requires { IsDistinct items.old.keys }
     ensures distinct { IsDistinct items.new.keys }
     ensures grown { (more : List (List ℕ)) × (items.new.keys ≡ items.old.keys ++ more) }
-    ensures within { IfOk result (λ n. n < length items.new.keys) }
-    ensures names { IfOk result (λ n. label_at items.new.keys n ≡ label.now) }
+    ensures number { IfOk result (λ l. IsNumberOf items.new.keys l pair.now) }
 {
-    let hint = known.get(place as usize).copied().unwrap_or(0) as usize;
-    if stands_at(items, label, hint) {
-        return Ok(hint);
+    let upper = number(items, &pair.upper, hint.upper)?;
+    let lower = number(items, &pair.lower, hint.lower)?;
+    Ok(Link { upper, lower })
+}
+
+/// The numbers that the labels of the rules at two places had last.
+fn known_numbers(known: &[usize], places: Link) -> Link {
+    Link {
+        upper: known.get(places.upper).copied().unwrap_or(0),
+        lower: known.get(places.lower).copied().unwrap_or(0),
     }
-    let number = number(items, label)?;
-    note(known, place, number)?;
-    Ok(number)
 }
 
 /// Notes the number that the label of the rule at a place has.
-fn note(known: &mut Vec<u32>, place: u32, number: usize) -> Result<(), Memory> {
-    let place = place as usize;
+fn note(known: &mut Vec<usize>, place: usize, number: usize) -> Result<(), Memory> {
     if known.len() <= place {
-        known.resize(place + 1, 0)?;
+        known.resize(place.saturating_add(1), 0)?;
     }
-    known[place] = narrow(number);
+    if place < known.len() {
+        known[place] = number;
+    }
     Ok(())
-}
-
-/// The places of both labels of a pair.
-fn number_pair(items: &mut NameSet<Name>, pair: &Pair) -> Result<Link, Memory>
-    requires { IsDistinct items.old.keys }
-    ensures distinct { IsDistinct items.new.keys }
-    ensures grown { (more : List (List ℕ)) × (items.new.keys ≡ items.old.keys ++ more) }
-    ensures number { IfOk result (λ l. IsNumberOf items.new.keys l pair.now) }
-{
-    let upper = number(items, &pair.upper)?;
-    let lower = number(items, &pair.lower)?;
-    Ok(Link { upper, lower })
-}
-
-/// The same. The numbers that its rules' labels had last are tried first.
-fn number_pair_near(
-    items: &mut NameSet<Name>,
-    known: &mut Vec<u32>,
-    pair: &Pair,
-    hint: PairHint,
-) -> Result<Link, Memory>
-    requires { IsDistinct items.old.keys }
-    ensures distinct { IsDistinct items.new.keys }
-    ensures grown { (more : List (List ℕ)) × (items.new.keys ≡ items.old.keys ++ more) }
-    ensures number { IfOk result (λ l. IsNumberOf items.new.keys l pair.now) }
-{
-    let upper = number_near(items, known, &pair.upper, hint.upper)?;
-    let lower = number_near(items, known, &pair.lower, hint.lower)?;
-    Ok(Link { upper, lower })
 }
 
 /// The numbers of pairs. A label that stands in many pairs is looked up once, where the hints are right.
@@ -408,7 +370,7 @@ fn number_all(
     alloc: Global,
     items: &mut NameSet<Name>,
     pairs: &[Pair],
-    hints: &[PairHint],
+    hints: &[Link],
 ) -> Result<Vec<Link>, Memory>
     requires { IsDistinct items.old.keys }
     ensures { IfOk result (λ links. IsNumbered items.new.keys links.items pairs.now) }
@@ -416,23 +378,47 @@ fn number_all(
     let mut known = Vec::new(alloc);
     let mut links = Vec::with_capacity(alloc, pairs.len())?;
     for (at, pair) in pairs.iter().enumerate() {
-        let hint = hint_at(hints, at);
-        links.push(number_pair_near(items, &mut known, pair, hint)?)?;
+        let places = hint_at(hints, at);
+        let link = number_pair(items, pair, known_numbers(known.as_slice(), places))?;
+        note(&mut known, places.upper, link.upper)?;
+        note(&mut known, places.lower, link.lower)?;
+        links.push(link)?;
     }
     Ok(links)
 }
 
-fn hint_at(hints: &[PairHint], at: usize) -> PairHint {
+/// The places of the labels of pairs, all of which are there. Those of the hints are tried first.
+fn links_near(
+    alloc: Global,
+    labels: &NameSet<Name>,
+    pairs: &[Pair],
+    hints: &[Link],
+) -> Result<Vec<Link>, Memory>
+    requires { All (AreThere labels.now.keys) pairs.now }
+    ensures within { IfOk result (λ links. All (IsWithin labels.now.keys) links.items) }
+    ensures named { IfOk result (λ links. pairs.now ≡ map (named labels.now.keys) links.items) }
+{
+    let mut links = Vec::with_capacity(alloc, pairs.len())?;
+    for (at, pair) in pairs.iter().enumerate() {
+        match link_near(labels, pair, hint_at(hints, at)) {
+            None => unreachable!(),
+            Some(link) => links.push(link)?,
+        }
+    }
+    Ok(links)
+}
+
+fn hint_at(hints: &[Link], at: usize) -> Link {
     hints.get(at).copied().unwrap_or(NO_HINT)
 }
 
 /// The hints of as many first pairs, and of those behind them.
 fn joined_hints(
     alloc: Global,
-    old: &[PairHint],
+    old: &[Link],
     len: usize,
-    new: &[PairHint],
-) -> Result<Vec<PairHint>, Memory> {
+    new: &[Link],
+) -> Result<Vec<Link>, Memory> {
     let mut hints = Vec::with_capacity(alloc, len)?;
     for at in 0..len {
         hints.push(hint_at(old, at))?;
@@ -448,18 +434,32 @@ fn order_of(
     links: &[Link],
 ) -> Result<(Order, Option<PairRefused>), Memory>
     requires { All (IsWithin items.now) links.now }
-    ensures { IfOk result (λ r. OrdersAll items.now r.0 links.now r.1) }
+    ensures { IfOk result (λ r. OrdersAll items.now [] r.0 links.now r.1) }
 {
     let mut order = Order::make(alloc);
-    match order.add_all(links) {
-        Ok(()) => Ok((order, None)),
+    let done = order.add_all(links);
+    let refused = refused_of(alloc, items, done)?;
+    Ok((order, refused))
+}
+
+/// The first pair of numbers that was not added, and why, in labels.
+pub(crate) fn refused_of(
+    alloc: Global,
+    items: &[Name],
+    done: Result<(), LoadStop>,
+) -> Result<Option<PairRefused>, Memory>
+    requires { IfErr done (StopsWithin items.now) }
+    ensures { IfOk result (IsRefusedAs items.now done) }
+{
+    match done {
+        Ok(()) => Ok(None),
         Err(LoadStop::There { at }) => {
             let cause = PairCause::There;
-            Ok((order, Some(PairRefused { at, cause })))
+            Ok(Some(PairRefused { at, cause }))
         }
         Err(LoadStop::Cycle { at, track }) => {
             let cause = PairCause::Cycle(path_of(alloc, items, track.as_slice())?);
-            Ok((order, Some(PairRefused { at, cause })))
+            Ok(Some(PairRefused { at, cause }))
         }
         Err(LoadStop::Memory) => Err(Memory),
     }
@@ -609,20 +609,6 @@ fn drop_numbered(
                 remove_pair(pairs, pair);
                 true
             }
-        },
-    }
-}
-
-/// The places of both labels of a pair, if both have one.
-fn link_of(items: &NameSet<Name>, pair: &Pair) -> Option<Link>
-    ensures number { IfSome result (λ l. IsNumberOf items.now.keys l pair.now) }
-    ensures absent { result ≡ None → ¬ (Contains items.now.keys pair.now.upper × Contains items.now.keys pair.now.lower) }
-{
-    match place_of(items, &pair.upper) {
-        None => None,
-        Some(upper) => match place_of(items, &pair.lower) {
-            None => None,
-            Some(lower) => Some(Link { upper, lower }),
         },
     }
 }

@@ -1,10 +1,14 @@
 //! Rows of edits with their answers, and each call once with ample memory.
 
+ghost use Rattle.std.specs.Prelude.{◌≤◌, All, length};
+ghost use Rattle.dl_theory.specs.Pairs.{IsWithin};
+
 use crate::edit::{Edit, EditRefusal, EditStop, PairsStop};
 use crate::lists::{Body, Path, TaggedList};
 use crate::rule::{Kind, Pair, Rule};
+use crate::rule_pairs::RulePairs;
 use crate::theory::Theory;
-use dl_lit::{Family, Literal, Name, Tagged};
+use dl_lit::{Family, Literal, Name, NameSet, Tagged, name_set};
 use std::alloc::Global;
 use std::process::Abort;
 
@@ -156,11 +160,59 @@ fn expect(rt: &impl Abort, alloc: Global, theory: &mut Theory, edit: Edit, want:
     }
 }
 
-/// Compares the places of the rules of a pair.
-fn expect_rules(rt: &impl Abort, theory: &Theory, at: usize, upper: usize, lower: usize) {
-    match theory.pair_rules(at) {
-        Some((above, below)) => assert!(rt; above == upper && below == lower),
-        None => assert!(rt; false),
+/// Compares the places of the rules of the pairs.
+fn expect_places(rt: &impl Abort, pairs: &RulePairs, want: &[(usize, usize)]) {
+    assert!(rt; pairs.len() == want.len() && pairs.rules_of(want.len()).is_none());
+    for (at, (upper, lower)) in want.iter().enumerate() {
+        match pairs.rules_of(at) {
+            Some((above, below)) => assert!(rt; above == *upper && below == *lower),
+            None => assert!(rt; false),
+        }
+    }
+}
+
+fn expect_rules(rt: &impl Abort, theory: &Theory, want: &[(usize, usize)]) {
+    let pairs = theory.rule_pairs().expect(rt, "the pairs");
+    expect_places(rt, &pairs, want);
+}
+
+/// The labels r1, r2 and r3.
+fn three_labels(rt: &impl Abort, alloc: Global) -> NameSet<Name> {
+    let mut labels = name_set(alloc);
+    for label in ["r1", "r2", "r3"] {
+        let done = labels.insert(name(rt, alloc, label));
+        assert!(rt; done.is_ok());
+    }
+    labels
+}
+
+/// The pairs r1 above r2 and r2 above r3.
+fn two_pairs(rt: &impl Abort, alloc: Global, labels: &NameSet<Name>) -> RulePairs
+    ensures within { All (IsWithin labels.now.keys) result }
+    ensures few { length result ≤ 1000000 }
+{
+    let mut pairs = RulePairs::make(alloc);
+    let more = [pair(rt, alloc, "r1", "r2"), pair(rt, alloc, "r2", "r3")];
+    let done = pairs.add_labelled(labels, &more);
+    assert!(rt; done.is_ok());
+    assert!(rt; pairs.len() <= 1_000_000);
+    pairs
+}
+
+/// Compares the place and the cause of a refusal.
+fn expect_stop(
+    rt: &impl Abort,
+    alloc: Global,
+    done: Result<(), PairsStop>,
+    place: usize,
+    want: &str,
+) {
+    match done {
+        Err(PairsStop::Refused { at, refusal }) => {
+            assert!(rt; at == place);
+            assert!(rt; text_of(rt, alloc, &refusal).as_slice() == want.as_bytes());
+        }
+        _ => assert!(rt; false),
     }
 }
 
@@ -227,18 +279,9 @@ fn several_pairs_stop_at_the_first_that_is_refused(rt: HostRuntime) {
     let done = theory.add_pairs(&pairs);
     assert!(rt; done.is_ok() && theory.pairs_len() == 2);
     let more = [pair(&rt, alloc, "r1", "r3"), pair(&rt, alloc, "r1", "r2")];
-    match theory.add_pairs(&more) {
-        Err(PairsStop::Refused { at, refusal }) => {
-            assert!(rt; at == 1);
-            assert!(rt; text_of(&rt, alloc, &refusal).as_slice() == "pair there".as_bytes());
-        }
-        _ => assert!(rt; false),
-    }
+    expect_stop(&rt, alloc, theory.add_pairs(&more), 1, "pair there");
     assert!(rt; theory.pair(2).is_some() && theory.pair(3).is_none());
-    expect_rules(&rt, &theory, 0, 0, 1);
-    expect_rules(&rt, &theory, 1, 1, 2);
-    expect_rules(&rt, &theory, 2, 0, 2);
-    assert!(rt; theory.pair_rules(3).is_none());
+    expect_rules(&rt, &theory, &[(0, 1), (1, 2), (0, 2)]);
 }
 
 #[test]
@@ -247,15 +290,61 @@ fn the_rules_of_a_pair_are_found_where_others_went(rt: HostRuntime) {
     let mut theory = three_rules(&rt, alloc);
     let pairs = [pair(&rt, alloc, "r2", "r3")];
     assert!(rt; theory.add_pairs(&pairs).is_ok());
-    expect_rules(&rt, &theory, 0, 1, 2);
+    expect_rules(&rt, &theory, &[(1, 2)]);
     let rows = [
         one(Act::DropRule, "r1", "ok"),
         one(Act::AddRule, "r4", "ok"),
         two(Act::AddPair, "r4", "r2", "ok"),
     ];
     expect_all(&rt, alloc, &mut theory, &rows);
-    expect_rules(&rt, &theory, 0, 0, 1);
-    expect_rules(&rt, &theory, 1, 2, 0);
+    expect_rules(&rt, &theory, &[(0, 1), (2, 0)]);
+}
+
+#[test]
+fn pairs_are_added_by_their_places(rt: HostRuntime) {
+    let alloc = rt.alloc();
+    let labels = three_labels(&rt, alloc);
+    let mut pairs = two_pairs(&rt, alloc, &labels);
+    expect_places(&rt, &pairs, &[(0, 1), (1, 2)]);
+    let done = pairs.add_labelled(&labels, &[pair(&rt, alloc, "r1", "r3")]);
+    assert!(rt; done.is_ok());
+    expect_places(&rt, &pairs, &[(0, 1), (1, 2), (0, 2)]);
+}
+
+#[test]
+fn the_pairs_before_a_missing_label_are_kept(rt: HostRuntime) {
+    let alloc = rt.alloc();
+    let labels = three_labels(&rt, alloc);
+    let mut pairs = RulePairs::make(alloc);
+    let more = [
+        pair(&rt, alloc, "r3", "r1"),
+        pair(&rt, alloc, "r1", "zz"),
+        pair(&rt, alloc, "r3", "r2"),
+    ];
+    let done = pairs.add_labelled(&labels, &more);
+    expect_stop(&rt, alloc, done, 1, "no label zz");
+    expect_places(&rt, &pairs, &[(2, 0)]);
+}
+
+#[test]
+fn a_pair_that_is_there_stops_the_others(rt: HostRuntime) {
+    let alloc = rt.alloc();
+    let labels = three_labels(&rt, alloc);
+    let mut pairs = two_pairs(&rt, alloc, &labels);
+    let more = [pair(&rt, alloc, "r1", "r3"), pair(&rt, alloc, "r1", "r2")];
+    let done = pairs.add_labelled(&labels, &more);
+    expect_stop(&rt, alloc, done, 1, "pair there");
+    expect_places(&rt, &pairs, &[(0, 1), (1, 2), (0, 2)]);
+}
+
+#[test]
+fn a_cycle_is_shown_by_its_labels(rt: HostRuntime) {
+    let alloc = rt.alloc();
+    let labels = three_labels(&rt, alloc);
+    let mut pairs = two_pairs(&rt, alloc, &labels);
+    let done = pairs.add_labelled(&labels, &[pair(&rt, alloc, "r3", "r1")]);
+    expect_stop(&rt, alloc, done, 0, "cycle r1 r2 r3");
+    expect_places(&rt, &pairs, &[(0, 1), (1, 2)]);
 }
 
 #[test]

@@ -1,19 +1,21 @@
 //! Theories under edits.
 
-ghost use Rattle.std.specs.Prelude.{◌≡◌, ◌<◌, length, slice_get, slice_index_or, OnOk, OnErr, IfOk, IfErr, IfSome, IfNone, ◌≤◌, ◌↔◌, IsTrue, Contains, ◌++◌, ◌∷◌, [], filter, not, false, if◌then◌else◌};
+ghost use Rattle.std.specs.Prelude.{◌≡◌, ◌<◌, length, slice_get, slice_index_or, OnOk, OnErr, IfOk, IfErr, IfSome, IfNone, ◌↔◌, IsTrue, All, map, Contains, ◌++◌, ◌∷◌, [], filter, not, false, if◌then◌else◌};
 ghost use Rattle.dl_base.specs.Paths.{IsDistinct};
 ghost use Rattle.dl_lit.specs.Literal.{literal_eq};
 ghost use Rattle.std.specs.Option.{option_copied};
 
 use crate::edit::{Edit, EditRefusal, EditStop, PairsStop};
 use crate::rule::{Pair, Rule};
+use crate::rule_pairs::RulePairs;
 use crate::rules::Rules;
 use crate::superiority::{PairStop, Superiority};
 use dl_lit::{Literal, Memory, Name, NameSet, name_set};
 use std::alloc::Global;
 use std::marker::Model;
 
-pub(crate) const LIMIT: usize = 1_000_000;
+/// So many facts, so many rules and so many pairs a theory has at most.
+pub const LIMIT: usize = 1_000_000;
 
 /// Facts, rules with distinct labels, and pairs of labels.
 #[derive(Drop)]
@@ -38,7 +40,7 @@ impl Model for Theory {
 impl Theory {
     ghost use Rattle.dl_theory.specs.Lists.{labels, no_lists, IsAbove, IsWellFormed};
     ghost use Rattle.dl_theory.specs.Edits.{after_edit, after_edits, additions, AreAccepted, IsAccepted, IsStopped, IsPairsStop, HasLabel};
-    ghost use Rattle.dl_theory.specs.PairRules.{AreRulesOf};
+    ghost use Rattle.dl_theory.specs.Pairs.{named, IsWithin};
 
     /// The empty theory.
     pub fn make(alloc: Global) -> Theory
@@ -107,22 +109,6 @@ impl Theory {
         self.rules.as_slice()
     }
 
-    /// The labels of the rules, in order.
-    pub fn labels(&self) -> &NameSet<Name>
-        ensures value { result.now.keys ≡ labels self.now }
-        ensures well_formed { IsWellFormed self.now }
-    {
-        self.rules.labels()
-    }
-
-    /// The superiority among the rules.
-    pub fn superiority(&self) -> &Superiority
-        ensures value { result.now ≡ self.now.pairs }
-        ensures well_formed { IsWellFormed self.now }
-    {
-        &self.pairs
-    }
-
     /// The pairs, in order.
     pub fn pairs(&self) -> &[Pair]
         ensures value { result.now ≡ self.now.pairs }
@@ -139,13 +125,14 @@ impl Theory {
         self.pairs.get(at)
     }
 
-    /// The places of the upper and the lower rule of the pair at a place; `None` exactly past the end.
-    pub fn pair_rules(&self, at: usize) -> Option<(usize, usize)>
-        ensures rules { IfSome result (λ r. AreRulesOf self.now at r.0 r.1) }
-        ensures past { IfNone result (length self.now.pairs ≤ at) }
+    /// The pairs by the places of their rules.
+    pub fn rule_pairs(&self) -> Result<RulePairs, Memory>
+        ensures named { IfOk result (λ pairs. map (named (labels self.now)) pairs ≡ self.now.pairs) }
+        ensures within { IfOk result (All (IsWithin (labels self.now))) }
         ensures well_formed { IsWellFormed self.now }
     {
-        self.pairs.rules_of(self.rules.labels(), at)
+        let links = self.pairs.links(self.rules.labels())?;
+        Ok(RulePairs::of(links))
     }
 
     /// The place of the rule with a label; `None` exactly where no rule has it.

@@ -1,12 +1,15 @@
-use Rattle.std.proofs.Common.{◌≡◌, [], ◌∷◌, ◌++◌, ◌+◌, ◌<◌, ◌≤◌, ℕ, List, length, take, map, get_or, sym, ap, subst, ◌∙◌}
+use Rattle.std.proofs.Common.{◌≡◌, [], ◌∷◌, ◌++◌, ◌+◌, ◌<◌, ℕ, List, length, take, map, get_or, sym, ap, ◌∙◌, arith}
 use Rattle.std.specs.Prelude.{flat_map}
-use Rattle.std.proofs.lemmas.List.{take_more, take_all}
-use Rattle.std.proofs.lemmas.Option.{slice_get-get_or}
+use Rattle.std.proofs.lemmas.List.{take_more, length-map}
 use Rattle.dl_theory.specs.declared.rule.Rule.{Rule}
 use Rattle.dl_theory.specs.declared.rule.Pair.{Pair}
-use Rattle.dl_theory.specs.Lists.{TheoryLists}
+use Rattle.dl_theory.specs.declared.rule_pairs.RulePairs.{RulePairs}
+use Rattle.dl_theory.specs.Lists.{TheoryLists, labels}
+use Rattle.dl_theory.specs.Pairs.{named}
 use Rattle.dl_net.specs.Above.{lower_step, upper_step}
+use Rattle.dl_net.specs.Linking.{AreRules, ArePairs, IsPairOf}
 use Rattle.dl_net.proofs.AboveLemmas.{flat_map-push}
+use Rattle.dl_net.proofs.PairRules.{told_pair}
 use Rattle.dl_net.proofs.load.load_pairs.Goals as goal
 
 -- what stands for a pair past the end
@@ -21,33 +24,23 @@ more_steps f pairs i rules lt =
     λ j. map (λ t. sym (ap (flat_map (λ q. f q t)) more ∙ flat_map-push (λ q. f q t) (take i pairs) p) j) rules
 
 pub loop-at-preserved : goal.loop-at-preserved
-loop-at-preserved g c =
-    let T : TheoryLists = g.theory in
+loop-at-preserved c =
     let i : ℕ = c.loop-at.at in
-    let p : Pair = get_or T.pairs i no_pair in
-    let at : i < length T.pairs = subst (λ (n : ℕ). i < n) (c.len-at-end.ensures ∙ ap length (sym c.requires.1.1.0)) c.loop-at-test.true in
-    let stands = slice_get-get_or T.pairs i no_pair at in
+    let links : RulePairs = c.args.pairs.now in
+    let step = c.in_ok-load_pair-in-Some.ensures in
+    let within : (T : TheoryLists) → ArePairs T links → i < length T.pairs =
+    λ T h. omega (arith, c.loop-at-test.true, c.len-at-end.ensures, ap length h.named, length-map links (named (labels T))) in
+    let pair : (T : TheoryLists) → ArePairs T links → IsPairOf T (get_or T.pairs i no_pair) c.in-Some.upper c.in-Some.lower =
+    λ T h. told_pair T links h i c.in-Some.upper c.in-Some.lower c.rules_of.result c.rules_of.ensures c.in-Some.is no_pair in
+    let kept : (T : TheoryLists) → AreRules T c.args.names.now.literals c.args.index.now.lines → AreRules T c.args.names.now.literals c.loop-at.index.lines =
+    λ T r. record { named = r.named; are = c.loop-at.invariant.lines ∙ r.are } in
     record {
-      lines = c.in_ok-load_pair.ensures.lines ∙ c.loop-at.invariant.lines;
-      numbers = c.in_ok-load_pair.ensures.numbers ∙ c.loop-at.invariant.numbers;
-      lowers = c.in_ok-load_pair.ensures.lowers p stands (λ t. flat_map (λ q. lower_step T q t) (take i T.pairs)) c.loop-at.invariant.lowers
-          ∙ more_steps (lower_step T) T.pairs i T.rules at;
-      uppers = c.in_ok-load_pair.ensures.uppers p stands (λ t. flat_map (λ q. upper_step T q t) (take i T.pairs)) c.loop-at.invariant.uppers
-          ∙ more_steps (upper_step T) T.pairs i T.rules at;
+      lines = step.lines ∙ c.loop-at.invariant.lines;
+      numbers = step.numbers ∙ c.loop-at.invariant.numbers;
+      lowers = λ T r h e.
+          step.lowers T (get_or T.pairs i no_pair) (kept T r) (pair T h) (λ t. flat_map (λ q. lower_step T q t) (take i T.pairs)) (c.loop-at.invariant.lowers T r h e)
+          ∙ more_steps (lower_step T) T.pairs i T.rules (within T h);
+      uppers = λ T r h e.
+          step.uppers T (get_or T.pairs i no_pair) (kept T r) (pair T h) (λ u. flat_map (λ q. upper_step T q u) (take i T.pairs)) (c.loop-at.invariant.uppers T r h e)
+          ∙ more_steps (upper_step T) T.pairs i T.rules (within T h);
     }
-
-pub returns-clause-lowers : goal.returns-clause-lowers
-returns-clause-lowers g c =
-    let T : TheoryLists = g.theory in
-    c.loop-at.invariant.lowers
-    ∙ ap (λ (ps : List Pair). map (λ t. flat_map (λ q. lower_step T q t) ps) T.rules)
-    (take_all c.loop-at.at T.pairs
-    (subst (λ (n : ℕ). n ≤ c.loop-at.at) (c.len-at-end.ensures ∙ ap length (sym c.requires.1.1.0)) c.loop-at-test.false))
-
-pub returns-clause-uppers : goal.returns-clause-uppers
-returns-clause-uppers g c =
-    let T : TheoryLists = g.theory in
-    c.loop-at.invariant.uppers
-    ∙ ap (λ (ps : List Pair). map (λ t. flat_map (λ q. upper_step T q t) ps) T.rules)
-    (take_all c.loop-at.at T.pairs
-    (subst (λ (n : ℕ). n ≤ c.loop-at.at) (c.len-at-end.ensures ∙ ap length (sym c.requires.1.1.0)) c.loop-at-test.false))

@@ -1,4 +1,4 @@
-use Rattle.std.proofs.Common.{◌≡◌, [], ◌∷◌, ◌++◌, ◌+◌, ◌<◌, ℕ, List, length, get_or, map, take, refl, sym, ap, subst, ◌∙◌, arith}
+use Rattle.std.proofs.Common.{◌≡◌, [], ◌∷◌, ◌++◌, ◌+◌, ◌<◌, ℕ, List, length, get_or, map, take, refl, sym, ap, subst, ◌∙◌}
 use Rattle.std.specs.Prelude.{All}
 use Rattle.std.proofs.lemmas.List.{take_more, take_all, map-append}
 use Rattle.std.proofs.lemmas.List.Elements.{All-nil, All-push}
@@ -34,9 +34,6 @@ loop-rule-init c = record {
   there = All-nil (HasLiterals c.args.names.now.literals);
   same = λ h. refl;
   lines = c.requires.lines;
-  lowers = c.requires.lowers;
-  uppers = c.requires.uppers;
-  numbers = c.requires.numbers;
 }
 
 pub loop-rule-preserved : goal.loop-rule-preserved
@@ -64,13 +61,6 @@ loop-rule-preserved c =
           (c.loop-rule.invariant.lines
           ∙ lines_kept old new c.load_rule.ensures.distinct near grown (take i rules) c.loop-rule.invariant.there)
           ∙ sym (map_more (line_in new) rules i r more);
-      lowers = c.in_ok-load_rule.ensures.lowers
-          ∙ ap (λ (xs : List (List ℕ)). xs ++ [] ∷ []) c.loop-rule.invariant.lowers
-          ∙ sym (map_more {Y = List ℕ} (λ _. []) rules i r more);
-      numbers = omega (arith, c.in_ok-load_rule.ensures.numbers, c.loop-rule.invariant.numbers);
-      uppers = c.in_ok-load_rule.ensures.uppers
-          ∙ ap (λ (xs : List (List ℕ)). xs ++ [] ∷ []) c.loop-rule.invariant.uppers
-          ∙ sym (map_more {Y = List ℕ} (λ _. []) rules i r more);
     }
 
 pub returns-clause-there : goal.returns-clause-there

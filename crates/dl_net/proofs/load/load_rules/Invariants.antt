@@ -1,4 +1,4 @@
-use Rattle.std.proofs.Common.{◌≡◌, [], take, map}
+use Rattle.std.proofs.Common.{◌≡◌, take, map}
 use Rattle.std.specs.Prelude.{All}
 use Rattle.dl_base.specs.Paths.{IsDistinct}
 use Rattle.dl_net.specs.Named.{IsPaired, Grows, HasLiterals, line_in}
@@ -11,8 +11,5 @@ invariant-loop-rule l = record {
   grown : Grows (λ _. Unit {0}) l.fn.names.literals l.names.literals;
   there : All (HasLiterals l.names.literals) (take l.rule-index l.rules);
   same : All (HasLiterals l.fn.names.literals) l.rules → l.names ≡ l.fn.names;
-  lines : l.index.lines ≡ map (line_in l.names.literals) (take l.rule-index l.rules);
-  lowers : l.index.lowers ≡ map (λ _. []) (take l.rule-index l.rules);
-  numbers : l.index.numbers ≡ l.rule-index;
-  uppers : l.index.uppers ≡ map (λ _. []) (take l.rule-index l.rules);
+  lines : l.lines.items ≡ map (line_in l.names.literals) (take l.rule-index l.rules);
 }

@@ -9,14 +9,14 @@ use Rattle.dl_theory.proofs.superiority.drop_numbered.Goals as goal
 pub returns-in-None-clause-found : goal.returns-in-None-clause-found
 returns-in-None-clause-found c = (
   λ e. cc,
-  λ m. absurd (c.link_of.ensures.absent c.in-None.is
+  λ m. absurd (c.in-None.ensures.absent
       (labels_of_pair c.args.items.now.keys c.args.order.now c.args.pairs.now.items c.requires.numbered c.args.pair.now.upper c.args.pair.now.lower m)),
 )
 
 pub returns-in-None-clause-dropped : goal.returns-in-None-clause-dropped
 returns-in-None-clause-dropped c =
     sym (without_absent pair_eq pair_eq-Decides c.args.pairs.now.items c.args.pair.now
-    (λ m. c.link_of.ensures.absent c.in-None.is
+    (λ m. c.in-None.ensures.absent
     (labels_of_pair c.args.items.now.keys c.args.order.now c.args.pairs.now.items c.requires.numbered c.args.pair.now.upper c.args.pair.now.lower m)))
 
 pub returns-in-Err-clause-found : goal.returns-in-Err-clause-found

@@ -1,29 +1,12 @@
-use Rattle.std.proofs.Common.{◌<◌, length, set, map, sym, subst}
-use Rattle.std.proofs.Math.ListN.{length-map}
+use Rattle.std.proofs.Common.{sym, subst}
 use Rattle.dl_net.specs.Tables.{RowLists, KeepsLists}
-use Rattle.dl_net.proofs.TableLemmas.{kept_lists, map_here}
+use Rattle.dl_net.specs.TablesView.{table_of}
+use Rattle.dl_net.specs.declared.rows.Rows.{Rows}
+use Rattle.dl_net.proofs.TableLemmas.{opened_keeps}
 use Rattle.dl_net.proofs.rows.RowTable.reserve.Goals as goal
 
-pub returns-in_err-reserve-clause-kept : goal.returns-in_err-reserve-clause-kept
-returns-in_err-reserve-clause-kept c =
-    subst (λ (t : RowLists). KeepsLists t (record { lists = map (λ v. v.items) (set c.self.inside.rows.items c.args.number c.reserve.new.self); spare = map (λ v. v.spare) (set c.self.inside.rows.items c.args.number c.reserve.new.self) })) c.self.view_is
-    (kept_lists c.self.inside.rows.items c.args.number c.index_mut-row.result.now c.reserve.new.self
-    (subst (λ k. c.args.number < k) (length-map c.self.inside.rows.items (λ v. v.items))
-    (subst (λ (t : RowLists). c.args.number < length t.lists) (sym c.self.view_is) c.requires))
-    c.index_mut-row.ensures.value c.reserve.ensures.items c.reserve.ensures.more)
-
-pub returns-clause-kept : goal.returns-clause-kept
-returns-clause-kept c =
-    subst (λ (t : RowLists). KeepsLists t (record { lists = map (λ v. v.items) (set c.self.inside.rows.items c.args.number c.reserve.new.self); spare = map (λ v. v.spare) (set c.self.inside.rows.items c.args.number c.reserve.new.self) })) c.self.view_is
-    (kept_lists c.self.inside.rows.items c.args.number c.index_mut-row.result.now c.reserve.new.self
-    (subst (λ k. c.args.number < k) (length-map c.self.inside.rows.items (λ v. v.items))
-    (subst (λ (t : RowLists). c.args.number < length t.lists) (sym c.self.view_is) c.requires))
-    c.index_mut-row.ensures.value c.reserve.ensures.items c.reserve.ensures.more)
-
-pub returns-clause-room : goal.returns-clause-room
-returns-clause-room c =
-    let here : c.args.number < length c.self.inside.rows.items =
-    subst (λ k. c.args.number < k) (length-map c.self.inside.rows.items (λ v. v.items))
-    (subst (λ (t : RowLists). c.args.number < length t.lists) (sym c.self.view_is) c.requires) in
-    subst (λ k. 0 < k) (sym (map_here (λ v. v.spare) c.self.inside.rows.items c.args.number c.index_mut-row.result.now c.reserve.new.self here c.index_mut-row.ensures.value 0))
-    c.in_ok-reserve.ensures.room
+pub returns-in_ok-reserve-in-Packed-clause-kept : goal.returns-in_ok-reserve-in-Packed-clause-kept
+returns-in_ok-reserve-in-Packed-clause-kept c =
+    subst (λ (t : RowLists). KeepsLists t c.reserve-in-Packed.new.self) c.self.view_is
+    (subst (λ (r : Rows). KeepsLists (table_of r) c.reserve-in-Packed.new.self) (sym c.in-Packed.is)
+    (opened_keeps c.in-Packed.rows c.in_ok-open-in-Packed.open c.reserve-in-Packed.new.self c.in_ok-open-in-Packed.ensures c.reserve-in-Packed.ensures.kept))

@@ -8,7 +8,7 @@ returns-clause-accepted c = λ T h l e.
     let as_many : c.len-end.result ≡ length c.in_ok-hints.hints.items = search rules in
     (labelled_outcome T c.args.labels.now.keys c.args.self.now c.args.pairs.now c.add_within_limit.new.self c.in_ok-refused.refused
     c.in_ok-hints.missing c.len-end.result c.outcome_of.result l e
-    (subst (λ (end : ℕ). IsFront c.args.labels.now.keys c.args.pairs.now end c.in_ok-hints.missing) (sym as_many) c.in_ok-hints.ensures)
+    (subst (λ (end : ℕ). IsFront c.args.labels.now.keys c.args.pairs.now end c.in_ok-hints.missing) (sym as_many) c.in_ok-hints.ensures.front)
     c.in_ok-refused.ensures.added c.add_within_limit.ensures.few c.outcome_of.ensures).accepted
 
 pub returns-clause-changed : goal.returns-clause-changed
@@ -16,7 +16,7 @@ returns-clause-changed c = λ T h l e.
     let as_many : c.len-end.result ≡ length c.in_ok-hints.hints.items = search rules in
     (labelled_outcome T c.args.labels.now.keys c.args.self.now c.args.pairs.now c.add_within_limit.new.self c.in_ok-refused.refused
     c.in_ok-hints.missing c.len-end.result c.outcome_of.result l e
-    (subst (λ (end : ℕ). IsFront c.args.labels.now.keys c.args.pairs.now end c.in_ok-hints.missing) (sym as_many) c.in_ok-hints.ensures)
+    (subst (λ (end : ℕ). IsFront c.args.labels.now.keys c.args.pairs.now end c.in_ok-hints.missing) (sym as_many) c.in_ok-hints.ensures.front)
     c.in_ok-refused.ensures.added c.add_within_limit.ensures.few c.outcome_of.ensures).changed
 
 pub returns-clause-stopped : goal.returns-clause-stopped
@@ -24,5 +24,5 @@ returns-clause-stopped c = λ T h l e.
     let as_many : c.len-end.result ≡ length c.in_ok-hints.hints.items = search rules in
     (labelled_outcome T c.args.labels.now.keys c.args.self.now c.args.pairs.now c.add_within_limit.new.self c.in_ok-refused.refused
     c.in_ok-hints.missing c.len-end.result c.outcome_of.result l e
-    (subst (λ (end : ℕ). IsFront c.args.labels.now.keys c.args.pairs.now end c.in_ok-hints.missing) (sym as_many) c.in_ok-hints.ensures)
+    (subst (λ (end : ℕ). IsFront c.args.labels.now.keys c.args.pairs.now end c.in_ok-hints.missing) (sym as_many) c.in_ok-hints.ensures.front)
     c.in_ok-refused.ensures.added c.add_within_limit.ensures.few c.outcome_of.ensures).stopped

@@ -2,7 +2,7 @@ use Rattle.std.proofs.Common.{◌≡◌, ℕ, ◌<◌, ◌-◌, ◌+◌, ◌++�
 use Rattle.std.proofs.lemmas.List.{length-take-le}
 use Rattle.dl_base.specs.Paths.{IsDistinct}
 use Rattle.dl_theory.specs.declared.rule.Pair.{Pair}
-use Rattle.dl_theory.proofs.Loads.{within_added, none_added, full_behind, free_distinct}
+use Rattle.dl_theory.proofs.Loads.{within_added, none_added, left_behind, full_behind, free_distinct}
 use Rattle.dl_theory.proofs.superiority.Superiority.add_within_limit.Goals as goal
 
 pub returns-then-is_some-clause-added : goal.returns-then-is_some-clause-added
@@ -29,8 +29,11 @@ returns-clause-added c =
     let room : ℕ = 1000000 - c.len-room.result in
     let within : room < length c.args.pairs.now = c.if-pairs-room.false in
     let all = none_added c.args.self.now c.add_all-2.new.self (take (room + 1) c.args.pairs.now) c.in_ok-refused.refused (sym (c.if-is_some.ensures)) c.in_ok-refused.ensures.added in
-    (full_behind c.args.self.now c.args.pairs.now c.add_all-2.new.self room within c.index-pairs-room.result c.index-pairs-room.is all c.drop_pair.new.self
-    c.drop_pair.ensures.dropped (omega (arith, c.len-room.ensures, c.requires.few))).0
+    let left : c.drop_pair.new.self ≡ c.args.self.now ++ take room c.args.pairs.now =
+    left_behind c.args.self.now c.args.pairs.now c.add_all-2.new.self room within c.index-pairs-room.result c.index-pairs-room.is all c.drop_pair.new.self
+    c.drop_pair.ensures.dropped in
+    full_behind c.args.self.now c.args.pairs.now c.add_all-2.new.self room within c.index-pairs-room.result c.index-pairs-room.is all.0
+    c.drop_pair.new.self left (omega (arith, c.len-room.ensures, c.requires.few))
 
 pub returns-clause-few : goal.returns-clause-few
 returns-clause-few c =
@@ -38,6 +41,6 @@ returns-clause-few c =
     let within : room < length c.args.pairs.now = c.if-pairs-room.false in
     let all = none_added c.args.self.now c.add_all-2.new.self (take (room + 1) c.args.pairs.now) c.in_ok-refused.refused (sym (c.if-is_some.ensures)) c.in_ok-refused.ensures.added in
     let left : c.drop_pair.new.self ≡ c.args.self.now ++ take room c.args.pairs.now =
-    (full_behind c.args.self.now c.args.pairs.now c.add_all-2.new.self room within c.index-pairs-room.result c.index-pairs-room.is all c.drop_pair.new.self
-    c.drop_pair.ensures.dropped (omega (arith, c.len-room.ensures, c.requires.few))).1 in
+    left_behind c.args.self.now c.args.pairs.now c.add_all-2.new.self room within c.index-pairs-room.result c.index-pairs-room.is all c.drop_pair.new.self
+    c.drop_pair.ensures.dropped in
     omega (arith, ap length left, length-append c.args.self.now (take room c.args.pairs.now), length-take-le room c.args.pairs.now (omega (arith, within)), c.len-room.ensures, c.requires.few)

@@ -1,0 +1,30 @@
+//! Packed lists that are filled, thinned out and emptied.
+
+use crate::rows::RowTable;
+use std::test::Fail;
+
+#[test]
+fn packed_lists_fill_their_room_and_no_more(rt: HostRuntime) -> Result<(), Fail> {
+    let mut rows = RowTable::with_room(rt.alloc(), &[2, 0, 3])?;
+    rows.append(0, 7)?;
+    rows.append(2, 5)?;
+    rows.append(2, 6)?;
+    rows.append(2, 5)?;
+    rows.append(0, 8)?;
+    assert!(rt; rows.append(0, 9).is_err());
+    assert!(rt; rows.append(1, 9).is_err());
+    assert!(rt; rows.append(2, 9).is_err());
+    assert_eq!(rt; rows.row(0), [7, 8].as_slice());
+    rows.remove(2, 5);
+    assert_eq!(rt; rows.row(2), [6].as_slice());
+    rows.append(2, 4)?;
+    assert_eq!(rt; rows.get(2, 1), Some(4));
+    assert!(rt; rows.ends_with(2, 4));
+    rows.clear(0);
+    assert_eq!(rt; rows.count(0), 0);
+    assert_eq!(rt; rows.count(2), 2);
+    assert_eq!(rt; rows.count(3), 0);
+    assert_eq!(rt; rows.len(), 3);
+    assert!(rt; rows.grow().is_err());
+    Ok(())
+}

@@ -1,0 +1,149 @@
+//! The lists that lead to rules which are all there.
+
+ghost use Rattle.std.specs.Prelude.{◌≡◌, ◌<◌, ◌^◌, ℕ, All, IfOk, OnOk, [], ◌∷◌, ◌++◌, length, map, set, if◌then◌else◌};
+ghost use Rattle.dl_net.specs.Tables.{list_at};
+ghost use Rattle.dl_net.specs.Lines.{IsWithin, line_at, is_in};
+ghost use Rattle.dl_net.specs.Indexes.{HasRules};
+
+use crate::lines::Lines;
+use crate::rows::RowTable;
+use crate::table::Table;
+use dl_base::Memory;
+use std::alloc::Global;
+
+/// The order and the places of rules, and those with each head and with each literal in the body.
+#[derive(Drop)]
+pub(crate) struct RuleLists {
+    pub order: Table<u32>,
+    pub places: Table<u32>,
+    pub heads: RowTable,
+    pub uses: RowTable,
+}
+
+impl RuleLists {
+    /// The lists of these rules, whose literals have numbers below a bound. Each takes no more room than it needs.
+    pub fn of(alloc: Global, lines: &Lines, names: usize) -> Result<RuleLists, Memory>
+        requires within { All (IsWithin names) lines.now.items }
+        requires few { length lines.now.items < 2 ^ 32 }
+        ensures rules { IfOk result (λ r. HasRules lines.now.items r.order.items r.places.items r.heads r.uses) }
+        ensures all { IfOk result (λ r. map (line_at lines.now.items) r.order.items ≡ lines.now.items) }
+    {
+        let mut lists = RuleLists::with_room(alloc, lines, count_lists(lines, names))?;
+        for rule in 0..lines.len() {
+            lists.enter(lines, rule)?;
+        }
+        Ok(lists)
+    }
+
+    /// Empty lists, with room for these rules.
+    fn with_room(alloc: Global, lines: &Lines, names: usize) -> Result<RuleLists, Memory>
+        requires { All (IsWithin names) lines.now.items }
+        ensures order { IfOk result (λ r. r.order.items ≡ []) }
+        ensures places { IfOk result (λ r. r.places.items ≡ []) }
+        ensures heads { IfOk result (λ r. (n : ℕ) → list_at r.heads n ≡ []) }
+        ensures uses { IfOk result (λ r. (n : ℕ) → list_at r.uses n ≡ []) }
+        ensures heads_wide { IfOk result (λ r. length r.heads.lists ≡ names) }
+        ensures uses_wide { IfOk result (λ r. length r.uses.lists ≡ names) }
+    {
+        let heads = count_heads(alloc, lines, names)?;
+        let uses = count_uses(alloc, lines, names)?;
+        Ok(RuleLists {
+            order: Table::make(alloc),
+            places: Table::make(alloc),
+            heads: RowTable::with_room(alloc, heads.as_slice())?,
+            uses: RowTable::with_room(alloc, uses.as_slice())?,
+        })
+    }
+
+    /// The rule with a number goes last into all lists that are its own.
+    fn enter(&mut self, lines: &Lines, rule: usize) -> Result<(), Memory>
+        requires rule { rule < length lines.now.items }
+        requires few { length lines.now.items < 2 ^ 32 }
+        requires head { (line_at lines.now.items rule).head < length self.old.heads.lists }
+        requires body { All (λ b. b < length self.old.uses.lists) (line_at lines.now.items rule).body }
+        requires fresh { (n : ℕ) → All (λ s. s < rule) (list_at self.old.uses n) }
+        ensures order { OnOk result (self.new.order.items ≡ self.old.order.items ++ rule ∷ []) }
+        ensures places { OnOk result (self.new.places.items ≡ self.old.places.items ++ rule ∷ []) }
+        ensures heads { OnOk result (self.new.heads.lists ≡ set self.old.heads.lists (line_at lines.now.items rule).head (list_at self.old.heads (line_at lines.now.items rule).head ++ rule ∷ [])) }
+        ensures uses { OnOk result ((n : ℕ) → list_at self.new.uses n ≡ list_at self.old.uses n ++ (if is_in (line_at lines.now.items rule).body n then rule ∷ [] else [])) }
+        ensures uses_wide { OnOk result (length self.new.uses.lists ≡ length self.old.uses.lists) }
+    {
+        let number = rule as u32;
+        self.order.reserve()?;
+        self.places.reserve()?;
+        self.heads.append(lines.head(rule) as usize, number)?;
+        append_uses(&mut self.uses, lines.each_once(rule), number)?;
+        self.order.push(number);
+        self.places.push(number);
+        Ok(())
+    }
+}
+
+/// How many lists rules take whose literals have numbers below a bound: none where there is no rule.
+fn count_lists(lines: &Lines, names: usize) -> usize
+    requires { All (IsWithin names) lines.now.items }
+    ensures { All (IsWithin result) lines.now.items }
+{
+    if lines.len() == 0 { 0 } else { names }
+}
+
+/// The number goes last into the lists of a body's literals, once into each.
+fn append_uses(uses: &mut RowTable, body: &[u32], rule: u32) -> Result<(), Memory>
+    requires within { All (λ b. b < length uses.old.lists) body.now }
+    requires fresh { (n : ℕ) → All (λ s. s < rule) (list_at uses.old n) }
+    ensures lists { OnOk result ((n : ℕ) → list_at uses.new n ≡ list_at uses.old n ++ (if is_in body.now n then rule ∷ [] else [])) }
+    ensures wide { OnOk result (length uses.new.lists ≡ length uses.old.lists) }
+{
+    for number in body {
+        let number = *number as usize;
+        if !uses.ends_with(number, rule) {
+            uses.append(number, rule)?;
+        }
+    }
+    Ok(())
+}
+
+/// How many rules have each number as their head.
+fn count_heads(alloc: Global, lines: &Lines, names: usize) -> Result<Vec<u32>, Memory>
+    requires { All (IsWithin names) lines.now.items }
+    ensures { IfOk result (λ counts. length counts.items ≡ names) }
+{
+    let mut counts = Vec::new(alloc);
+    counts.resize(names, 0u32)?;
+    for rule in 0..lines.len() {
+        count_one(&mut counts, lines.head(rule) as usize);
+    }
+    Ok(counts)
+}
+
+/// How many rules have each number in the body.
+fn count_uses(alloc: Global, lines: &Lines, names: usize) -> Result<Vec<u32>, Memory>
+    requires { All (IsWithin names) lines.now.items }
+    ensures { IfOk result (λ counts. length counts.items ≡ names) }
+{
+    let mut counts = Vec::new(alloc);
+    counts.resize(names, 0u32)?;
+    for rule in 0..lines.len() {
+        count_each(&mut counts, lines.each_once(rule));
+    }
+    Ok(counts)
+}
+
+/// Counts each of these numbers.
+fn count_each(counts: &mut Vec<u32>, numbers: &[u32])
+    requires { All (λ n. n < length counts.old.items) numbers.now }
+    ensures { length counts.new.items ≡ length counts.old.items }
+{
+    for number in numbers {
+        count_one(counts, *number as usize);
+    }
+}
+
+/// Counts a number once more. A count that is full stays, and then there is no room for so many.
+#[inline(always)]
+fn count_one(counts: &mut Vec<u32>, number: usize)
+    requires { number < length counts.old.items }
+    ensures { length counts.new.items ≡ length counts.old.items }
+{
+    counts[number] = counts[number].saturating_add(1);
+}

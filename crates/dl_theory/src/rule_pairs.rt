@@ -1,0 +1,152 @@
+//! Pairs of rules by the places of their labels.
+
+ghost use Rattle.std.specs.Prelude.{◌≡◌, ◌≤◌, [], All, OnOk, OnErr, IfOk, IfErr, map, length, slice_get};
+ghost use Rattle.std.specs.Option.{option_map};
+ghost use Rattle.dl_base.specs.Paths.{IsDistinct};
+ghost use Rattle.dl_sup.specs.Links.{IsOrder};
+ghost use Rattle.dl_theory.specs.Edits.{after_edits, additions, AreAccepted, IsPairsStop};
+ghost use Rattle.dl_theory.specs.Lists as lists;
+ghost use Rattle.dl_theory.specs.Lists.{TheoryLists, IsWellFormed};
+ghost use Rattle.dl_theory.specs.Pairs.{named, IsWithin};
+ghost use Rattle.dl_theory.specs.Superiority.{AddsAll, OrdersAll};
+
+use crate::edit::PairsStop;
+use crate::labelled::{labelled_front, outcome_of};
+use crate::rule::Pair;
+use crate::superiority::{PairCause, PairRefused, refused_of};
+use crate::theory::LIMIT;
+use dl_lit::{Memory, Name, NameSet};
+use dl_sup::{Link, extend_order};
+use std::alloc::Global;
+use std::marker::Model;
+
+/// Pairs of rules by the places of their labels, distinct and without cycles: for whoever keeps the labels of the rules and drops none.
+#[derive(Drop)]
+pub struct RulePairs {
+    links: Vec<Link>,
+}
+
+impl Model for RulePairs {
+    ghost use Rattle.std.specs.Prelude.{List};
+    ghost use Rattle.dl_sup.specs.declared.link.Link.{Link};
+    ghost use Rattle.dl_sup.specs.Links.{IsOrder};
+
+    ghost Value = { List Link };
+
+    ghost view = { λ p. p.links.items };
+
+    ghost invariant = { λ p. IsOrder p.links.items };
+}
+
+impl RulePairs {
+    /// The empty list.
+    pub fn make(alloc: Global) -> RulePairs
+        ensures { result ≡ [] }
+    {
+        RulePairs {
+            links: Vec::new(alloc),
+        }
+    }
+
+    /// The pairs of an order.
+    pub(crate) fn of(links: Vec<Link>) -> RulePairs
+        requires { IsOrder links.items }
+        ensures { result ≡ links.items }
+    {
+        RulePairs { links }
+    }
+
+    /// Adds pairs to those of a theory whose rules have these labels, as adding them one by one, in order, up to the first that is refused.
+    pub fn add_labelled(&mut self, labels: &NameSet<Name>, pairs: &[Pair]) -> Result<(), PairsStop>
+        requires within { All (IsWithin labels.now.keys) self.old }
+        requires few { length self.old ≤ 1000000 }
+        ensures accepted { (T : TheoryLists) → IsWellFormed T → lists.labels T ≡ labels.now.keys → T.pairs ≡ map (named labels.now.keys) self.old
+            → OnOk result (AreAccepted T (additions pairs.now)) }
+        ensures changed { (T : TheoryLists) → IsWellFormed T → lists.labels T ≡ labels.now.keys → T.pairs ≡ map (named labels.now.keys) self.old
+            → OnOk result (map (named labels.now.keys) self.new ≡ (after_edits T (additions pairs.now)).pairs) }
+        ensures stopped { (T : TheoryLists) → IsWellFormed T → lists.labels T ≡ labels.now.keys → T.pairs ≡ map (named labels.now.keys) self.old
+            → IfErr result (IsPairsStop T (record T { pairs = map (named labels.now.keys) self.new }) pairs.now) }
+        ensures within { All (IsWithin labels.now.keys) self.new }
+    {
+        let alloc = *self.links.allocator();
+        let (links, missing) = labelled_front(alloc, labels, pairs)?;
+        let end = links.len();
+        let items = labels.as_slice();
+        let refused = add_within_limit(alloc, items, &mut self.links, links.as_slice())?;
+        outcome_of(refused, missing, end)
+    }
+
+    /// How many pairs there are.
+    pub fn len(&self) -> usize
+        ensures { result ≡ length self.now }
+    {
+        self.links.len()
+    }
+
+    /// The places of the upper and the lower rule of the pair at a place; `None` exactly past the end.
+    pub fn rules_of(&self, at: usize) -> Option<(usize, usize)>
+        ensures { result ≡ option_map (λ l. (l.upper, l.lower)) (slice_get self.now at) }
+    {
+        match self.links.get(at) {
+            None => None,
+            Some(link) => Some((link.upper, link.lower)),
+        }
+    }
+}
+
+/// Adds pairs behind an order, up to the first that is refused; the labels are for the answer.
+fn add_all(
+    alloc: Global,
+    items: &[Name],
+    links: &mut Vec<Link>,
+    more: &[Link],
+) -> Result<Option<PairRefused>, Memory>
+    requires order { IsOrder links.old.items }
+    requires old_within { All (IsWithin items.now) links.old.items }
+    requires more_within { All (IsWithin items.now) more.now }
+    ensures order { IsOrder links.new.items }
+    ensures within { All (IsWithin items.now) links.new.items }
+    ensures added { IfOk result (OrdersAll items.now links.old.items links.new.items more.now) }
+    ensures kept { OnErr result (links.new.items ≡ links.old.items) }
+{
+    let old = links.len();
+    let done = extend_order(links, more);
+    match refused_of(alloc, items, done) {
+        Ok(refused) => Ok(refused),
+        Err(memory) => {
+            links.truncate(old);
+            Err(memory)
+        }
+    }
+}
+
+/// The same, where a pair that finds the list full is refused.
+fn add_within_limit(
+    alloc: Global,
+    items: &[Name],
+    links: &mut Vec<Link>,
+    more: &[Link],
+) -> Result<Option<PairRefused>, Memory>
+    requires order { IsOrder links.old.items }
+    requires old_within { All (IsWithin items.now) links.old.items }
+    requires more_within { All (IsWithin items.now) more.now }
+    requires distinct { IsDistinct items.now }
+    requires few { length links.old.items ≤ 1000000 }
+    ensures order { IsOrder links.new.items }
+    ensures within { All (IsWithin items.now) links.new.items }
+    ensures few { length links.new.items ≤ 1000000 }
+    ensures added { IfOk result (AddsAll (map (named items.now) links.old.items) (map (named items.now) links.new.items) (map (named items.now) more.now)) }
+    ensures kept { OnErr result (links.new.items ≡ links.old.items) }
+{
+    let room = LIMIT - links.len();
+    if more.len() <= room {
+        return add_all(alloc, items, links, more);
+    }
+    let refused = add_all(alloc, items, links, &more[..room + 1])?;
+    if refused.is_some() {
+        return Ok(refused);
+    }
+    links.truncate(LIMIT);
+    let cause = PairCause::Full;
+    Ok(Some(PairRefused { at: room, cause }))
+}
