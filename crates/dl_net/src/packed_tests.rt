@@ -4,7 +4,7 @@ use crate::rows::RowTable;
 use std::test::Fail;
 
 #[test]
-fn packed_lists_fill_their_room_and_no_more(rt: HostRuntime) -> Result<(), Fail> {
+fn packed_lists_fill_their_room_and_then_are_opened(rt: HostRuntime) -> Result<(), Fail> {
     let mut rows = RowTable::with_room(rt.alloc(), &[2, 0, 3])?;
     rows.append(0, 7)?;
     rows.append(2, 5)?;
@@ -25,6 +25,13 @@ fn packed_lists_fill_their_room_and_no_more(rt: HostRuntime) -> Result<(), Fail>
     assert_eq!(rt; rows.count(2), 2);
     assert_eq!(rt; rows.count(3), 0);
     assert_eq!(rt; rows.len(), 3);
-    assert!(rt; rows.grow().is_err());
+    // one list more opens them, and then each grows
+    rows.grow()?;
+    assert_eq!(rt; rows.len(), 4);
+    rows.append(1, 9)?;
+    rows.append(3, 1)?;
+    assert_eq!(rt; rows.row(1), [9].as_slice());
+    assert_eq!(rt; rows.row(2), [6, 4].as_slice());
+    assert_eq!(rt; rows.row(3), [1].as_slice());
     Ok(())
 }
