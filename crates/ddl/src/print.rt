@@ -6,6 +6,7 @@ ghost use Rattle.std.specs.Io.KnownBytes.{append_known};
 ghost use Rattle.dl_io.specs.Outside.{HasCause};
 ghost use Rattle.dl_io.specs.Streams.{WritesAll};
 ghost use Rattle.dl_lit.specs.declared.literal.Family.{Family};
+ghost use Rattle.dl_lit.specs.Borrowed.{literal_of};
 ghost use Rattle.dl_print.specs.Text.{refusal_text};
 ghost use Rattle.dl_print.specs.Room.{HasRoom, Puts};
 ghost use Rattle.ddl.specs.Theories.{line_front, line_text, refusal_words, refused_line};
@@ -18,7 +19,7 @@ use crate::refusal::Refusal;
 use crate::reply::Reply;
 use dl_edition::Concluded;
 use dl_io::{Failed, Sink, write_all};
-use dl_lit::{Family, Literal};
+use dl_lit::{Family, LiteralRef};
 use dl_print::{
     put_conclusion, room_behind, write_conclusion, write_number, write_refusal, write_theory,
 };
@@ -83,9 +84,9 @@ fn write_line<S: Sink>(
     sink: &mut S,
     family: Family,
     verdict: Verdict,
-    literal: &Literal,
+    literal: LiteralRef<'_>,
 ) -> Result<(), Failed>
-    ensures bytes { WritesAll (S.written sink.old) (S.written sink.new) result (conclusion_line family (record { literal = literal.now; verdict = verdict })) }
+    ensures bytes { WritesAll (S.written sink.old) (S.written sink.new) result (conclusion_line family (record { literal = literal_of literal.entry; verdict = verdict })) }
     ensures cause { HasCause (S.faults sink.old) (S.faults sink.new) result }
     ensures name { S.name sink.new ≡ S.name sink.old }
 {
@@ -119,9 +120,9 @@ fn fit(conclusions: &Concluded, from: usize, to: usize, room: usize) -> bool
 
 /// Puts a line behind a text that has room for it.
 #[inline(always)]
-fn put_line(text: &mut Vec<u8>, family: Family, verdict: Verdict, literal: &Literal)
-    requires { HasRoom text.old (conclusion_line family (record { literal = literal.now; verdict = verdict })) }
-    ensures { Puts text.old text.new (conclusion_line family (record { literal = literal.now; verdict = verdict })) }
+fn put_line(text: &mut Vec<u8>, family: Family, verdict: Verdict, literal: LiteralRef<'_>)
+    requires { HasRoom text.old (conclusion_line family (record { literal = literal_of literal; verdict = verdict })) }
+    ensures { Puts text.old text.new (conclusion_line family (record { literal = literal_of literal.entry; verdict = verdict })) }
 {
     put_conclusion(text, verdict, family, literal);
     text.push_reserved(b'\n');

@@ -17,6 +17,7 @@ use Rattle.std.proofs.lemmas.List.Sorted.{All-permutation, Contains-permutation,
 use Rattle.std.proofs.lemmas.Map.Keys.{IsDistinct-from_apart, IsDistinct-IsPermutation, apart_from_distinct}
 use Rattle.dl_base.proofs.Members.{Contains-mapped, mapped_from}
 use Rattle.dl_lit.specs.declared.literal.Literal.{Literal}
+use Rattle.dl_lit.specs.Borrowed.{literal_of}
 use Rattle.dl_lit.specs.Literal.{complement}
 use Rattle.dl_lit.specs.Order.{bytes_cmp, literal_cmp, literal_total, exact_literals}
 use Rattle.dl_theory.specs.Listings.{Mentions, AreLiterals}
@@ -64,22 +65,22 @@ less_by_atom : (q r : Literal) → bytes_cmp q.atom r.atom ≡ Less → literal_
 less_by_atom q r h = ap (λ o. ordering_then o (ordering_then (option_cmp bytes_cmp q.mode r.mode) (bool_cmp r.positive q.positive))) h
 
 module _ (N : NetLists) (numbered : IsNumbered N) where
-  one_number : (p q : Placed) → IsPlaced N p → IsPlaced N q → p.literal.now ≡ q.literal.now → p.number ≡ q.number
+  one_number : (p q : Placed) → IsPlaced N p → IsPlaced N q → literal_of p.literal ≡ literal_of q.literal → p.number ≡ q.number
   one_number p q is are e =
       sym (numbered.distinct p.number is.within) ∙ ap (number N) (sym is.literal ∙ e ∙ are.literal) ∙ numbered.distinct q.number are.within
 
   before : (p q : Placed) → IsPlaced N p → IsPlaced N q → p.number ≢ q.number → is_lt (placed_cmp q p) ≡ false
-      → literal_cmp p.literal.now q.literal.now ≡ Less
+      → literal_cmp (literal_of p.literal) (literal_of q.literal) ≡ Less
   before p q is are apart later = elim (cases_order q.prefix p.prefix) [
     | inl e ↦
         let tied : nat_cmp q.prefix p.prefix ≡ Equal = ap (λ n. nat_cmp n p.prefix) e ∙ tied_itself nat_cmp_total p.prefix in
-        by_answer p.literal.now q.literal.now (literal_cmp p.literal.now q.literal.now) refl (λ same. apart (one_number p q is are same))
-        (sym (ap (λ o. is_lt (ordering_then o (literal_cmp q.literal.now p.literal.now))) tied) ∙ later)
+        by_answer (literal_of p.literal) (literal_of q.literal) (literal_cmp (literal_of p.literal) (literal_of q.literal)) refl (λ same. apart (one_number p q is are same))
+        (sym (ap (λ o. is_lt (ordering_then o (literal_cmp (literal_of q.literal) (literal_of p.literal)))) tied) ∙ later)
     | inr (inl below) ↦
-        absurd (true≢false (sym (ap (λ o. is_lt (ordering_then o (literal_cmp q.literal.now p.literal.now))) (less q.prefix p.prefix below)) ∙ later))
+        absurd (true≢false (sym (ap (λ o. is_lt (ordering_then o (literal_cmp (literal_of q.literal) (literal_of p.literal)))) (less q.prefix p.prefix below)) ∙ later))
     | inr (inr above) ↦
-        less_by_atom p.literal.now q.literal.now
-        (less_by_prefix p.literal.now.atom q.literal.now.atom (name_bytes p.literal.now.atom is.spelled) (name_bytes q.literal.now.atom are.spelled) 8
+        less_by_atom (literal_of p.literal) (literal_of q.literal)
+        (less_by_prefix p.literal.atom.now q.literal.atom.now (name_bytes p.literal.atom.now is.spelled) (name_bytes q.literal.atom.now are.spelled) 8
         (omega (arith, above, is.prefix_is, are.prefix_is)))
   ]
 
@@ -95,11 +96,11 @@ module _ (N : NetLists) (numbered : IsNumbered N) where
       (within_pairs ps (All-tail (IsPlaced N) p ps h)))
 
   literals_of_pairs : (ps : List Placed) → All (IsPlaced N) ps
-      → map (literal_at N) (flat_map (pair_numbers N) ps) ≡ flat_map both (map (λ p. p.literal.now) ps)
+      → map (literal_at N) (flat_map (pair_numbers N) ps) ≡ flat_map both (map (λ p. literal_of p.literal) ps)
   literals_of_pairs [] h = refl
   literals_of_pairs (p ∷ ps) h =
       let is = All-head (IsPlaced N) p ps h in
-      let other : literal_at N (number_of_other N p.number) ≡ complement p.literal.now =
+      let other : literal_at N (number_of_other N p.number) ≡ complement (literal_of p.literal) =
       (other_finds N numbered p.number is.within).1 ∙ ap complement (sym is.literal) in
       λ i. sym is.literal i ∷ other i ∷ literals_of_pairs ps (All-tail (IsPlaced N) p ps h) i
 
@@ -117,7 +118,7 @@ module _ (N : NetLists) (list sorted : List Placed) (numbered : IsNumbered N) (h
       (IsDistinct-from_apart (λ p q. eqb p.number q.number) list
       (λ i j d lt within. ne_eqb (get_or list i d).number (get_or list j d).number (λ e. omega (arith, e, h.rising i j d lt within))))
 
-  in_order : AllPairs (λ p q. literal_cmp p.literal.now q.literal.now ≡ Less) sorted
+  in_order : AllPairs (λ p q. literal_cmp (literal_of p.literal) (literal_of q.literal) ≡ Less) sorted
   in_order = λ i j d lt within.
       let p = get_or sorted i d in
       let q = get_or sorted j d in
@@ -126,7 +127,7 @@ module _ (N : NetLists) (list sorted : List Placed) (numbered : IsNumbered N) (h
       before N numbered p q (each i d (omega (arith, lt, within))) (each j d within) apart later
 
   abbrev positives : List Literal
-  positives = map (λ p. p.literal.now) sorted
+  positives = map (λ p. literal_of p.literal) sorted
 
   abbrev literals : List Literal
   literals = flat_map both positives
@@ -142,7 +143,7 @@ module _ (N : NetLists) (list sorted : List Placed) (numbered : IsNumbered N) (h
       let in_sorted = Contains-permutation list sorted p moved found.1 in
       subst (λ (x : Literal). Contains positives x)
       ((All-contains (IsPlaced N) sorted p each in_sorted).literal ∙ ap (literal_at N) found.2 ∙ is)
-      (Contains-mapped (λ p. p.literal.now) sorted p in_sorted)
+      (Contains-mapped (λ p. literal_of p.literal) sorted p in_sorted)
 
   complete : (q : Literal) → Mentions N.theory q → Contains literals q
   complete q m = elim (cases_Bool q.positive) [
@@ -155,12 +156,12 @@ module _ (N : NetLists) (list sorted : List Placed) (numbered : IsNumbered N) (h
   listed : AreLiterals N.theory literals
   listed = record {
     in_order = in_order_both positives
-        (All-map (λ q. q.positive ≡ true) (λ p. p.literal.now) sorted (All-weaker (IsPlaced N) (λ p. p.literal.now.positive ≡ true) (λ p is. is.positive) sorted each))
-        (pairs_map (λ q r. literal_cmp q r ≡ Less) (λ p. p.literal.now) sorted in_order);
+        (All-map (λ q. q.positive ≡ true) (λ p. literal_of p.literal) sorted (All-weaker (IsPlaced N) (λ p. p.literal.positive ≡ true) (λ p is. is.positive) sorted each))
+        (pairs_map (λ q r. literal_cmp q r ≡ Less) (λ p. literal_of p.literal) sorted in_order);
     sound = all_both (Mentions N.theory) positives
-        (All-map (λ q. Mentions N.theory q × Mentions N.theory (complement q)) (λ p. p.literal.now) sorted
-        (All-weaker (IsPlaced N) (λ p. Mentions N.theory p.literal.now × Mentions N.theory (complement p.literal.now))
-        (λ p is. (is.mentioned, mentions_complement N.theory p.literal.now is.mentioned)) sorted each));
+        (All-map (λ q. Mentions N.theory q × Mentions N.theory (complement q)) (λ p. literal_of p.literal) sorted
+        (All-weaker (IsPlaced N) (λ p. Mentions N.theory (literal_of p.literal) × Mentions N.theory (complement (literal_of p.literal)))
+        (λ p is. (is.mentioned, mentions_complement N.theory (literal_of p.literal) is.mentioned)) sorted each));
     complete = complete;
   }
 

@@ -3,6 +3,7 @@ use Rattle.std.specs.Prelude.{◌≡◌, ℕ, ◌+◌, ◌*◌, ◌<◌, zero, s
 use Rattle.std.specs.declared.cmp.Ordering.{Ordering}
 use Rattle.std.specs.Ordering.{on, then_cmp, nat_cmp}
 use Rattle.std.specs.Cmp.{IsTotalOrder, then_total, on_total, nat_cmp_total}
+use Rattle.dl_lit.specs.Borrowed.{literal_of}
 use Rattle.dl_lit.specs.Name.{is_name}
 use Rattle.dl_lit.specs.Order.{literal_cmp, literal_total}
 use Rattle.dl_theory.specs.Listings.{Mentions}
@@ -16,19 +17,19 @@ prefix (suc n) bytes = prefix n bytes * 256 + slice_index_or bytes n 0
 
 -- by prefix, then by literal
 abbrev pub placed_cmp : Placed → Placed → Ordering
-placed_cmp = then_cmp (on (λ p. p.prefix) nat_cmp) (on (λ p. p.literal.now) literal_cmp)
+placed_cmp = then_cmp (on (λ p. p.prefix) nat_cmp) (on (λ p. literal_of p.literal) literal_cmp)
 
 pub placed_total : IsTotalOrder placed_cmp
-placed_total = then_total (on_total (λ p. p.prefix) nat_cmp_total) (on_total (λ p. p.literal.now) literal_total)
+placed_total = then_total (on_total (λ p. p.prefix) nat_cmp_total) (on_total (λ p. literal_of p.literal) literal_total)
 
 -- a positive literal that the theory mentions, under its number and with the prefix of its atom
 pub record IsPlaced (N : NetLists) (p : Placed) : Type 0 where
   pub within : p.number < length N.names
-  pub literal : p.literal.now ≡ literal_at N p.number
-  pub positive : p.literal.now.positive ≡ true
-  pub mentioned : Mentions N.theory p.literal.now
-  pub prefix_is : p.prefix ≡ prefix 8 p.literal.now.atom
-  pub spelled : IsTrue (is_name p.literal.now.atom)
+  pub literal : literal_of p.literal ≡ literal_at N p.number
+  pub positive : p.literal.positive ≡ true
+  pub mentioned : Mentions N.theory (literal_of p.literal)
+  pub prefix_is : p.prefix ≡ prefix 8 p.literal.atom.now
+  pub spelled : IsTrue (is_name p.literal.atom.now)
 
 -- the positive literals below a number that the theory mentions, in the order of their numbers
 pub record ArePlaced (N : NetLists) (n : ℕ) (list : List Placed) : Type 0 where

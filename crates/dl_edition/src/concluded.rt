@@ -1,6 +1,7 @@
 //! The conclusions of a theory, without a list of them.
 
 ghost use Rattle.std.specs.Prelude.{◌≡◌, ◌<◌, ◌≤◌, IfOk, length, slice_index_or};
+ghost use Rattle.dl_lit.specs.Borrowed.{literal_of};
 ghost use Rattle.dl_marks.specs.Marks.{places};
 ghost use Rattle.dl_fill.specs.Filled.{IsRight};
 ghost use Rattle.dl_edition.specs.Conclusions.{AreConclusions, no_conclusion};
@@ -8,7 +9,7 @@ ghost use Rattle.dl_edition.specs.Conclusions.{AreConclusions, no_conclusion};
 use crate::order::order_of;
 use crate::verdict::marked_verdict;
 use dl_base::Memory;
-use dl_lit::{Family, Literal};
+use dl_lit::{Family, LiteralRef};
 use dl_marks::Marks;
 use dl_net::NumberedNet;
 use dl_theory::Verdict;
@@ -67,9 +68,9 @@ impl Concluded {
     }
 
     /// The literal of the conclusion at a place, and its verdict.
-    pub fn at(&self, at: usize) -> (&Literal, Verdict)
+    pub fn at(&self, at: usize) -> (LiteralRef<'_>, Verdict)
         requires { at < length self.now }
-        ensures { record { literal = result.0.now; verdict = result.1 } ≡ slice_index_or self.now at no_conclusion }
+        ensures { record { literal = literal_of result.0; verdict = result.1 } ≡ slice_index_or self.now at no_conclusion }
     {
         let number = self.order[at];
         let verdict = marked_verdict(&self.marks, self.family, number);

@@ -19,7 +19,7 @@ fn placed<'a>(alloc: Global, net: &Graph<'a>) -> Result<Vec<Placed<'a>>, Memory>
     for number in 0..net.names() {
         let literal = net.literal(number);
         if literal.positive && net.lives(number) {
-            let prefix = prefix_of(&literal.atom);
+            let prefix = prefix_of(literal.atom);
             list.push(Placed {
                 prefix,
                 literal,

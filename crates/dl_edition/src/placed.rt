@@ -4,7 +4,7 @@ ghost use Rattle.std.specs.Prelude.{◌≡◌, IsTrue};
 ghost use Rattle.dl_lit.specs.Name.{is_name};
 ghost use Rattle.dl_edition.specs.Placing.{prefix};
 
-use dl_lit::{Literal, Name};
+use dl_lit::{LiteralRef, Name};
 use std::cmp::Ordering;
 
 /// As many bytes as fit in a `u64`.
@@ -14,7 +14,7 @@ const PREFIX: usize = 8;
 #[derive(Clone, Copy)]
 pub(crate) struct Placed<'a> {
     pub(crate) prefix: u64,
-    pub(crate) literal: &'a Literal,
+    pub(crate) literal: LiteralRef<'a>,
     pub(crate) number: usize,
 }
 
@@ -70,7 +70,7 @@ impl Ord for Placed<'_> {
     fn cmp(&self, other: &Self) -> Ordering {
         // what is less is told by one comparison of numbers, so that a sort has no branch on it
         if self.prefix == other.prefix {
-            return self.literal.cmp(other.literal);
+            return self.literal.cmp(&other.literal);
         }
         if self.prefix < other.prefix {
             Ordering::Less

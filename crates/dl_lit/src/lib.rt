@@ -1,6 +1,7 @@
 //! Names, literals and tagged literals.
 #![tactic(auto)]
 
+mod borrowed;
 mod literal;
 mod name;
 mod names;
@@ -9,6 +10,7 @@ mod near;
 mod tests;
 mod text;
 
+pub use borrowed::LiteralRef;
 pub use dl_base::Memory;
 pub use literal::{Family, Literal, Tag, Tagged, hash_atom};
 pub use name::{Name, NameStop, begins_name, continues_name};

@@ -1,6 +1,6 @@
 //! Names and literals, each call once.
 
-use crate::{Family, Literal, Name, NameStop, Tagged};
+use crate::{Family, Literal, LiteralRef, Name, NameStop, Tagged};
 use std::test::Fail;
 
 #[test]
@@ -54,5 +54,42 @@ fn literals_come_by_atom_then_mode_then_sign(rt: HostRuntime) -> Result<(), Fail
         literal: plain,
     };
     assert!(rt; tagged.copy()? == tagged);
+    Ok(())
+}
+
+#[test]
+fn borrowed_literals_answer_as_literals(rt: HostRuntime) -> Result<(), Fail> {
+    let alloc = rt.alloc();
+    // in the order of the literals
+    let rows: [(Option<&[u8]>, &[u8], bool); 6] = [
+        (None, b"a", false),
+        (None, b"p", true),
+        (None, b"p", false),
+        (Some(b"K"), b"p", true),
+        (Some(b"O"), b"p", true),
+        (Some(b"O"), b"p", false),
+    ];
+    let mut literals = Vec::new(alloc);
+    for (mode, atom, positive) in rows.iter() {
+        let mode = match mode {
+            Some(mode) => Some(Name::make(alloc, mode)?),
+            None => None,
+        };
+        let atom = Name::make(alloc, atom)?;
+        literals.push(Literal {
+            mode,
+            atom,
+            positive: *positive,
+        })?;
+    }
+    for (at, literal) in literals.iter().enumerate() {
+        let borrowed = LiteralRef::of(literal);
+        assert!(rt; borrowed.copy()? == *literal);
+        for (place, other) in literals.iter().enumerate() {
+            let other = LiteralRef::of(other);
+            assert_eq!(rt; borrowed == other, at == place);
+            assert_eq!(rt; borrowed.cmp(&other), at.cmp(&place));
+        }
+    }
     Ok(())
 }

@@ -26,3 +26,4 @@ pub mod NumberedLemmas
 pub mod OccursLemmas
 pub mod StagedLemmas
 mod RegionLemmas
+pub mod AtomLemmas

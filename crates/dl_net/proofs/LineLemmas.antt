@@ -3,9 +3,9 @@ use Rattle.std.proofs.Common.{◌≡◌, ℕ, zero, suc, ◌<◌, List, [], ◌�
 use Rattle.dl_theory.specs.declared.rule.Kind.{Kind}
 use Rattle.dl_net.specs.declared.lines.Lines.TheInside.{Inside}
 use Rattle.dl_net.specs.Listed.{Listed}
-use Rattle.dl_net.specs.Tables.{RowLists, no_table}
+use Rattle.dl_net.specs.Tables.{RowLists, list_at}
 use Rattle.dl_net.specs.Lines.{Line, line_at}
-use Rattle.dl_net.specs.Indexes.{by_place}
+use Rattle.dl_net.specs.Indexes.{by_place, place_in}
 use Rattle.dl_net.proofs.TableLemmas.{none_mapped}
 use Rattle.dl_net.specs.KeptLines.{joined, AreAsLong, lines_of, IsKeptLines}
 
@@ -84,7 +84,7 @@ module _ (a : Inside) (kept : IsKeptLines a) (v : Listed Line) (is : lines_of a 
         ∙ ap (λ (ls : Listed Line). set ls.items n l) is
 
 -- where no rule is above another, each has an empty list
-pub none_linked : (lines : List Line) (order places : List ℕ) (t : RowLists) → t ≡ no_table → map (line_at lines) order ≡ lines
+pub none_linked : (lines : List Line) (order places : List ℕ) (t : RowLists) → ((n : ℕ) → list_at t n ≡ []) → map (line_at lines) order ≡ lines
     → by_place order places t ≡ map (λ _. []) lines
 none_linked lines order places t none all =
-    ap (by_place order places) none ∙ sym (none_mapped (line_at lines) order) ∙ ap (map (λ _. [])) all
+    (λ i. map (λ s. map (place_in places) (none s i)) order) ∙ sym (none_mapped (line_at lines) order) ∙ ap (map (λ _. [])) all

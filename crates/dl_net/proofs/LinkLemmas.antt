@@ -3,7 +3,7 @@ use Rattle.std.proofs.Common.{◌≡◌, ◌≢◌, ℕ, ◌<◌, ◌≤◌, Lis
 use Rattle.std.specs.Prelude.{All, Contains}
 use Rattle.std.proofs.lemmas.Bool.{cases_eq}
 use Rattle.std.proofs.lemmas.List.{get_or-map}
-use Rattle.std.proofs.lemmas.List.Elements.{All-push, All-contains, Contains-append_left, Contains-append_cases, Contains-push}
+use Rattle.std.proofs.lemmas.List.Elements.{All-nil, All-push, All-contains, Contains-append_left, Contains-append_cases, Contains-push}
 use Rattle.dl_base.proofs.Members.{only}
 use Rattle.dl_net.specs.Tables.{RowLists, list_at}
 use Rattle.dl_net.specs.Lines.{list_of}
@@ -57,6 +57,18 @@ module _ (t t' : RowLists) (n x : ℕ) (p : Puts t t' n x) where
 
   pub put_past : (len k : ℕ) → n < len → len ≤ k → list_at t k ≡ [] → list_at t' k ≡ []
   put_past len k lt past empty = put_other k (λ e. absurd (omega (arith, e, lt, past))) ∙ empty
+
+-- no rule stands below another
+pub HasLinks-none : (len : ℕ) (order : List ℕ) (lowers uppers : RowLists) → ((s : ℕ) → list_at lowers s ≡ []) → ((s : ℕ) → list_at uppers s ≡ [])
+    → HasLinks len order lowers uppers
+HasLinks-none len order lowers uppers no_lower no_upper = record {
+  lower_there = λ s. subst (λ (xs : List ℕ). All (Contains order) xs) (sym (no_lower s)) (All-nil (Contains order));
+  upper_there = λ s. subst (λ (xs : List ℕ). All (Contains order) xs) (sym (no_upper s)) (All-nil (Contains order));
+  turned = λ s t m. let none : Contains [] t = subst (λ (xs : List ℕ). Contains xs t) (no_lower s) m in absurd (omega (arith, none.1));
+  turned_back = λ s t m. let none : Contains [] s = subst (λ (xs : List ℕ). Contains xs s) (no_upper t) m in absurd (omega (arith, none.1));
+  lower_past = λ s past. no_lower s;
+  upper_past = λ s past. no_upper s;
+}
 
 pub HasLinks-put : (len : ℕ) (order : List ℕ) (lowers uppers lowers' uppers' : RowLists) (u l : ℕ) → HasLinks len order lowers uppers
     → All (λ s. s < len) order → Contains order u → Contains order l → Puts lowers lowers' u l → Puts uppers uppers' l u → HasLinks len order lowers' uppers'

@@ -73,11 +73,11 @@ idle_at f none t h past n =
       | inr d ↦ sym (ap (λ b. cond b (f (list_at t n)) (list_at t n)) (differ n h d))
     ]
 
--- lists that are all empty
-pub none_at : {X : Type 0} (xs : List X) (n : ℕ) → get_or (map {B = List ℕ} (λ _. []) xs) n [] ≡ []
-none_at [] n = refl
-none_at (x ∷ xs) zero = refl
-none_at (x ∷ xs) (suc n) = none_at xs n
+-- a list of one value has that value everywhere
+pub constant_at : {X Y : Type 0} (y : Y) (xs : List X) (n : ℕ) → get_or (map (λ _. y) xs) n y ≡ y
+constant_at y [] n = refl
+constant_at y (x ∷ xs) zero = refl
+constant_at y (x ∷ xs) (suc n) = constant_at y xs n
 
 pub none_mapped : {X Y : Type 0} (f : X → Y) (xs : List X) → map {B = List ℕ} (λ _. []) (map f xs) ≡ map (λ _. []) xs
 none_mapped f [] = refl
@@ -85,16 +85,11 @@ none_mapped f (x ∷ xs) = ap (λ (ls : List (List ℕ)). [] ∷ ls) (none_mappe
 
 -- ---- packed lists, which have no room that is known of
 
-pub no_spare : (lists : List (List ℕ)) (n : ℕ) → get_or (map (λ (_ : List ℕ). zero) lists) n zero ≡ zero
-no_spare [] n = refl
-no_spare (x ∷ xs) zero = refl
-no_spare (x ∷ xs) (suc n) = no_spare xs n
-
 -- they are kept where they are opened
 pub opened_keeps : (lists : List (List ℕ)) (opened new : RowLists) → opened.lists ≡ lists → KeepsLists opened new
     → KeepsLists (record { lists = lists; spare = map (λ _. 0) lists }) new
 opened_keeps lists opened new e h = record {
   lists = λ n. h.lists n ∙ ap (λ (ls : List (List ℕ)). get_or ls n []) e;
   wide = omega (arith, h.wide, ap length e);
-  room = λ n. omega (arith, no_spare lists n);
+  room = λ n. omega (arith, constant_at {Y = ℕ} 0 lists n);
 }

@@ -29,3 +29,6 @@ pub mod KeptGraph
 pub mod KeptNumbered
 pub mod KeptNumberedNet
 pub mod Region
+pub mod Atoms
+pub mod KeptAtoms
+pub mod GraphNames

@@ -1,6 +1,6 @@
 -- Literals by their modes and atoms, whatever their signs, and each beside its complement.
 use Rattle.std.specs.Hash as fed
-use Rattle.std.specs.Prelude.{◌≡◌, IsTrue, Bool, List, [], ◌∷◌}
+use Rattle.std.specs.Prelude.{◌≡◌, IsTrue, Bool, List, [], ◌∷◌, map}
 use Rattle.std.specs.Bool.{Decides}
 use Rattle.std.specs.Cmp.{IsEquivalence, and_equiv, on_equiv, nat_eq_equiv}
 use Rattle.std.specs.Cmp.Lexicographic.{options_equiv, lists_equiv}
@@ -50,7 +50,11 @@ unsigned_equiv = on_equiv (λ q. q.literal.now) atom_equiv
 abbrev pub unsigned_hash : Unsigned → fed.HashWrites
 unsigned_hash q = atom_hash q.literal.now.mode q.literal.now.atom
 
+-- the first literal of each pair
+abbrev pub firsts_of : List Both → List Literal
+firsts_of = map (λ p. p.first)
+
 -- each literal and then its complement
-abbrev pub pairs_of : List Both → List Literal
+abbrev pub pairs_of : List Literal → List Literal
 pairs_of [] = []
-pairs_of (p ∷ ps) = p.first ∷ complement p.first ∷ pairs_of ps
+pairs_of (q ∷ qs) = q ∷ complement q ∷ pairs_of qs

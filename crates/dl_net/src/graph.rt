@@ -1,15 +1,16 @@
 //! What a fill reads of a theory by numbers.
 
 ghost use Rattle.std.specs.Prelude.{◌≡◌, ◌<◌, IfSome, IfNone, Contains, length, position, slice_get};
+ghost use Rattle.dl_lit.specs.Borrowed.{literal_of};
 ghost use Rattle.dl_lit.specs.Literal.{literal_eq};
 ghost use Rattle.dl_theory.specs.Lists.{IsWellFormed};
 
+use crate::graph_names::GraphNames;
 use crate::index::Index;
 use crate::load::other;
-use crate::names::PairedNames;
 use crate::staged::Staged;
 use crate::table::Table;
-use dl_lit::{Literal, Name, NameSet};
+use dl_lit::{Literal, LiteralRef, Name, NameSet};
 use dl_theory::RulePairs;
 use std::marker::Model;
 
@@ -33,7 +34,7 @@ pub(crate) struct Kept<'a> {
 /// A theory by numbers with its indexes, borrowed from what keeps them.
 #[derive(Drop)]
 pub struct Graph<'a> {
-    pub(crate) names: &'a PairedNames,
+    pub(crate) names: GraphNames<'a>,
     /// By number, whether the literal is a fact.
     pub(crate) facts: &'a Table<bool>,
     pub(crate) index: &'a Index,
@@ -75,9 +76,9 @@ impl<'a> Graph<'a> {
     }
 
     /// The literal with this number.
-    pub fn literal(&self, number: usize) -> &'a Literal
+    pub fn literal(&self, number: usize) -> LiteralRef<'a>
         requires { number < length self.now.names }
-        ensures { result.now ≡ literal_at self.now number }
+        ensures { literal_of result ≡ literal_at self.now number }
     {
         match self.names.literal(number) {
             Some(literal) => literal,

@@ -15,7 +15,9 @@ ghost use Rattle.dl_net.specs.Indexes.{place_in, IsStill};
 use crate::counts::{can_support, count, passes};
 use crate::entry::{Between, Entry, Room};
 use crate::lines::Lines;
-use crate::put::{put_rule, reserve_at, reserve_rule, widen};
+use crate::link_counts::LinkCounts;
+use crate::lists::Lists;
+use crate::put::{append_both, put_rule, reserve_at, reserve_rule, widen};
 use crate::rows::RowTable;
 use crate::rule_lists::RuleLists;
 use crate::table::Table;
@@ -66,8 +68,14 @@ impl Index {
         }
     }
 
-    /// The index of rules that are all there, whose literals have numbers below a bound. No inner number is empty.
-    pub fn of(alloc: Global, lines: Lines, names: usize) -> Result<Index, Memory>
+    /// The index of rules that are all there, whose literals have numbers below a bound, with room for so many below and above each. No
+    /// inner number is empty.
+    pub fn of(
+        alloc: Global,
+        lines: Lines,
+        names: usize,
+        links: &LinkCounts,
+    ) -> Result<Index, Memory>
         requires within { All (IsWithin names) lines.items }
         requires few { length lines.items < 2 ^ 32 }
         ensures lines { IfOk result (λ index. index.lines ≡ lines.items) }
@@ -75,6 +83,8 @@ impl Index {
         ensures uppers { IfOk result (λ index. index.uppers ≡ map (λ _. []) lines.items) }
         ensures numbers { IfOk result (λ index. index.numbers ≡ length lines.items) }
     {
+        let lowers = RowTable::with_room(alloc, links.lowers.as_slice())?;
+        let uppers = RowTable::with_room(alloc, links.uppers.as_slice())?;
         let lists = RuleLists::of(alloc, &lines, names)?;
         let RuleLists {
             order,
@@ -88,8 +98,8 @@ impl Index {
             places,
             heads,
             uses,
-            lowers: RowTable::make(alloc),
-            uppers: RowTable::make(alloc),
+            lowers,
+            uppers,
             room: Room::Nothing,
         })
     }
@@ -169,6 +179,30 @@ impl Index {
         reserve_at(&mut self.uppers, lower)?;
         self.room = Room::ForLink(Between { upper, lower });
         Ok(())
+    }
+
+    /// A rule goes below another, in the room that the index was made with. `Memory` where there is none, and then none stands below
+    /// another.
+    pub fn append_link(&mut self, upper: usize, lower: usize) -> Result<(), Memory>
+        requires upper { upper < length self.old.lines }
+        requires lower { lower < length self.old.lines }
+        ensures lines { self.new.lines ≡ self.old.lines }
+        ensures lowers { OnOk result (self.new.lowers ≡ set self.old.lowers upper (list_of self.old.lowers upper ++ lower ∷ [])) }
+        ensures uppers { OnOk result (self.new.uppers ≡ set self.old.uppers lower (list_of self.old.uppers lower ++ upper ∷ [])) }
+        ensures numbers { self.new.numbers ≡ self.old.numbers }
+    {
+        self.room = Room::Nothing;
+        let upper = read(&self.order, upper);
+        let lower = read(&self.order, lower);
+        match append_both(&mut self.lowers, &mut self.uppers, upper, lower) {
+            Ok(()) => Ok(()),
+            Err(Memory) => {
+                let alloc = self.order.alloc();
+                self.lowers = RowTable::make(alloc);
+                self.uppers = RowTable::make(alloc);
+                Err(Memory)
+            }
+        }
     }
 
     /// The rule for which there is memory goes below the other.

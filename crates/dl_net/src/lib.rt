@@ -1,17 +1,22 @@
 //! A theory by numbers.
 #![tactic(auto)]
 
+mod atom;
+mod atom_pairs;
 mod body;
 mod both;
 mod counts;
 mod edits;
 mod entry;
 mod graph;
+mod graph_names;
 mod index;
 mod labels;
 mod lines;
 mod link;
+mod link_counts;
 mod links;
+mod lists;
 mod load;
 mod names;
 mod net;
@@ -25,6 +30,9 @@ mod open_rows;
 mod packed_rows;
 #[cfg(test)]
 mod packed_tests;
+mod pair_set;
+#[cfg(test)]
+mod pair_tests;
 mod put;
 mod readers;
 mod ready;
@@ -39,6 +47,7 @@ mod staged;
 mod table;
 mod tables;
 mod take;
+mod whole_pairs;
 
 pub use graph::Graph;
 pub use link::Link;

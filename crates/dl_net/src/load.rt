@@ -1,4 +1,4 @@
-//! The indexes of a whole theory, in one pass over its rules and one over its pairs.
+//! The index of a whole theory: its rules by the numbers of their literals, and which of them stand below and above others.
 
 ghost use Rattle.std.specs.Prelude.{◌≡◌, ◌<◌, ◌^◌, ◌+◌, ◌==◌, ◌∷◌, ◌++◌, ℕ, List, [], Some, IfOk, OnOk, OnErr, All, Contains, length, map, get_or, slice_get};
 ghost use Rattle.dl_base.specs.Paths.{IsDistinct};
@@ -14,9 +14,12 @@ ghost use Rattle.std.specs.List.{flat_map};
 
 use crate::index::Index;
 use crate::lines::Lines;
+use crate::link_counts::LinkCounts;
 use crate::names::PairedNames;
 use crate::number::number_rule;
+use crate::pair_set::PairSet;
 use crate::region::Region;
+use crate::whole_pairs::WholePairs;
 use dl_base::Memory;
 use dl_theory::{Rule, RulePairs, Theory};
 use std::alloc::Global;
@@ -37,7 +40,7 @@ pub(crate) fn other(number: usize) -> usize
 /// is empty.
 pub(crate) fn index_of(
     alloc: Global,
-    names: &mut PairedNames,
+    names: &mut PairedNames<WholePairs>,
     theory: &Theory,
 ) -> Result<Index, Memory>
     requires { IsPaired names.old.literals }
@@ -54,7 +57,8 @@ pub(crate) fn index_of(
     let pairs = theory.rule_pairs()?;
     let mut lines = Lines::make(alloc);
     load_rules(alloc, names, &mut lines, theory.rules())?;
-    let mut index = Index::of(alloc, lines, names.len())?;
+    let links = LinkCounts::count(alloc, &lines, &pairs)?;
+    let mut index = Index::of(alloc, lines, names.len(), &links)?;
     load_pairs(&mut index, names, &pairs)?;
     Ok(index)
 }
@@ -63,7 +67,7 @@ pub(crate) fn index_of(
 pub(crate) fn room_for_rule(
     alloc: Global,
     rule: &Rule,
-    names: &mut PairedNames,
+    names: &mut PairedNames<WholePairs>,
     index: &mut Index,
 ) -> Result<(), Memory>
     requires { IsPaired names.old.literals }
@@ -82,10 +86,10 @@ pub(crate) fn room_for_rule(
 }
 
 /// One more rule, whose literals and their complements get numbers.
-pub(crate) fn load_rule(
+pub(crate) fn load_rule<P: PairSet>(
     alloc: Global,
     rule: &Rule,
-    names: &mut PairedNames,
+    names: &mut PairedNames<P>,
     seen: &mut Region,
     lines: &mut Lines,
 ) -> Result<(), Memory>
@@ -108,7 +112,7 @@ pub(crate) fn load_rule(
 /// Rules by the numbers of their literals, which get some beside their complements where they have none.
 fn load_rules(
     alloc: Global,
-    names: &mut PairedNames,
+    names: &mut PairedNames<WholePairs>,
     lines: &mut Lines,
     rules: &[Rule],
 ) -> Result<(), Memory>
@@ -130,9 +134,9 @@ fn load_rules(
 }
 
 /// Which rules stand below and above each rule, where these are the pairs.
-pub(crate) fn load_pairs(
+pub(crate) fn load_pairs<P: PairSet>(
     index: &mut Index,
-    names: &PairedNames,
+    names: &PairedNames<P>,
     pairs: &RulePairs,
 ) -> Result<(), Memory>
     requires heads { All (IsWithin (length names.now.literals)) index.old.lines }
@@ -152,9 +156,9 @@ pub(crate) fn load_pairs(
 }
 
 /// The rules of a pair, below and above each other where their heads attack each other.
-fn load_pair(
+fn load_pair<P: PairSet>(
     index: &mut Index,
-    names: &PairedNames,
+    names: &PairedNames<P>,
     upper: usize,
     lower: usize,
 ) -> Result<(), Memory>
@@ -170,13 +174,16 @@ fn load_pair(
     if !meet(index, names, upper, lower) {
         return Ok(());
     }
-    index.reserve_link(upper, lower)?;
-    index.put_link();
-    Ok(())
+    index.append_link(upper, lower)
 }
 
 /// Whether the head of one rule is attacked by that of another.
-pub(crate) fn meet(index: &Index, names: &PairedNames, upper: usize, lower: usize) -> bool
+pub(crate) fn meet<P: PairSet>(
+    index: &Index,
+    names: &PairedNames<P>,
+    upper: usize,
+    lower: usize,
+) -> bool
     requires upper { upper < length index.now.lines }
     requires lower { lower < length index.now.lines }
     requires few { (get_or index.now.lines upper no_line).head < length names.now.literals }

@@ -1,16 +1,19 @@
 //! Numbers of literals.
 
 ghost use Rattle.std.specs.Prelude.{◌≡◌, ◌<◌, ◌+◌, ◌*◌, ◌^◌, ◌++◌, ◌∷◌, [], Some, false, IfOk, IfSome, IfNone, OnOk, OnErr, IsTrue, Contains, length, position, slice_get};
-ghost use Rattle.std.specs.Option.{option_copied};
+ghost use Rattle.std.specs.Option.{option_copied, option_map};
 ghost use Rattle.dl_base.specs.Paths.{IsDistinct};
+ghost use Rattle.dl_lit.specs.Borrowed.{literal_of};
 ghost use Rattle.dl_lit.specs.Literal.{literal_eq, complement};
 ghost use Rattle.dl_lit.specs.Names.{no_names, with_both};
 ghost use Rattle.dl_net.specs.Named.{IsPaired};
-ghost use Rattle.dl_net.specs.Pairs.{pairs_of};
+ghost use Rattle.dl_net.specs.Pairs.{firsts_of, pairs_of};
 
-use crate::both::{Both, Unsigned};
+use crate::both::Both;
+use crate::pair_set::PairSet;
+use crate::whole_pairs::WholePairs;
 use dl_base::Memory;
-use dl_lit::{Literal, NameSet, name_set};
+use dl_lit::{Literal, LiteralRef};
 use std::alloc::Global;
 use std::marker::Model;
 
@@ -19,39 +22,38 @@ const PAIR_LIMIT: usize = 0x8000_0000;
 
 /// Literals by number, each beside its complement. One look-up finds both.
 #[derive(Drop)]
-pub(crate) struct PairedNames {
-    /// Each pair, found by its mode and atom whatever the sign.
-    pairs: NameSet<Both>,
+pub(crate) struct PairedNames<P: PairSet> {
+    pairs: P,
     frozen: bool,
 }
 
-impl Model for PairedNames {
+impl<P: PairSet> Model for PairedNames<P> {
     ghost use Rattle.dl_lit.specs.Names.{Numbering};
 
     ghost Value = { Numbering };
 
     ghost use Rattle.dl_net.specs.KeptNames.{numbering_of, IsKeptNames};
 
-    ghost view = { numbering_of };
+    ghost view = { numbering_of P.firsts };
 
-    ghost invariant = { IsKeptNames };
+    ghost invariant = { IsKeptNames P.firsts };
 }
 
-impl PairedNames {
-    pub fn make(alloc: Global) -> PairedNames
+impl<P: PairSet> PairedNames<P> {
+    pub fn make(alloc: Global) -> PairedNames<P>
         ensures { result ≡ no_names }
     {
         PairedNames {
-            pairs: name_set(alloc),
+            pairs: P::make(alloc),
             frozen: false,
         }
     }
 
     /// No literals, with room for so many pairs. `Memory` where there is none for them.
-    pub fn with_room(alloc: Global, pairs: usize) -> Result<PairedNames, Memory>
+    pub fn with_room(alloc: Global, pairs: usize) -> Result<PairedNames<P>, Memory>
         ensures { IfOk result (λ names. names ≡ no_names) }
     {
-        let mut empty = name_set(alloc);
+        let mut empty = P::make(alloc);
         empty.reserve(pairs)?;
         Ok(PairedNames {
             pairs: empty,
@@ -69,16 +71,20 @@ impl PairedNames {
     }
 
     /// The literal with this number.
-    pub fn literal(&self, number: usize) -> Option<&Literal>
-        ensures { option_copied result ≡ slice_get self.now.literals number }
+    #[inline(always)]
+    pub fn literal(&self, number: usize) -> Option<LiteralRef<'_>>
+        ensures { option_map literal_of result ≡ slice_get self.now.literals number }
     {
-        match self.pairs.get_index(number / 2) {
+        match self.pairs.first(number / 2) {
             None => None,
-            Some(both) => {
+            Some(first) => {
                 if number % 2 == 0 {
-                    Some(both.first())
+                    Some(first)
                 } else {
-                    Some(both.second())
+                    Some(LiteralRef {
+                        positive: !first.positive,
+                        ..first
+                    })
                 }
             }
         }
@@ -93,10 +99,10 @@ impl PairedNames {
         ensures distinct { IsDistinct self.now.literals }
         ensures paired { IsPaired self.now.literals }
     {
-        match self.pairs.get_full(Unsigned { literal }) {
+        match self.pairs.find(literal) {
             None => None,
-            Some((place, both)) => {
-                if both.first().positive == literal.positive {
+            Some((place, positive)) => {
+                if positive == literal.positive {
                     Some(2 * place)
                 } else {
                     Some(2 * place + 1)
@@ -160,12 +166,13 @@ impl PairedNames {
         if self.pairs.len() >= PAIR_LIMIT {
             return Ok(None);
         }
-        let (place, new) = self.pairs.insert_full(Both::of(literal)?)?;
-        if !new {
-            return Ok(None);
+        match self.pairs.put(literal)? {
+            None => Ok(None),
+            Some(place) => {
+                self.frozen = false;
+                Ok(Some(2 * place))
+            }
         }
-        self.frozen = false;
-        Ok(Some(2 * place))
     }
 
     /// From here on the names can be shared.
@@ -176,22 +183,40 @@ impl PairedNames {
         self.frozen = true;
         Ok(())
     }
+}
+
+impl PairedNames<WholePairs> {
+    /// The literal with this number, which is kept as one.
+    pub fn whole(&self, number: usize) -> Option<&Literal>
+        ensures { option_copied result ≡ slice_get self.now.literals number }
+    {
+        match self.pairs.set.get_index(number / 2) {
+            None => None,
+            Some(both) => {
+                if number % 2 == 0 {
+                    Some(both.first())
+                } else {
+                    Some(both.second())
+                }
+            }
+        }
+    }
 
     /// The same literals at the same numbers once more, frozen.
-    pub fn share(&self) -> Result<PairedNames, Memory>
+    pub fn share(&self) -> Result<PairedNames<WholePairs>, Memory>
         requires { IsTrue self.now.frozen }
         ensures { IfOk result (λ names. names ≡ self.now) }
     {
-        let mut names = copied(*self.pairs.allocator(), self.pairs.as_slice())?;
+        let mut names = copied(*self.pairs.set.allocator(), self.pairs.set.as_slice())?;
         names.frozen = true;
         Ok(names)
     }
 }
 
 /// The names of these pairs.
-fn copied(alloc: Global, pairs: &[Both]) -> Result<PairedNames, Memory>
-    requires { IsDistinct (pairs_of pairs.now) }
-    ensures { IfOk result (λ names. names.literals ≡ pairs_of pairs.now) }
+fn copied(alloc: Global, pairs: &[Both]) -> Result<PairedNames<WholePairs>, Memory>
+    requires { IsDistinct (pairs_of (firsts_of pairs.now)) }
+    ensures { IfOk result (λ names. names.literals ≡ pairs_of (firsts_of pairs.now)) }
 {
     let mut names = PairedNames::with_room(alloc, pairs.len())?;
     for both in pairs {

@@ -10,6 +10,7 @@ ghost use Rattle.dl_theory.specs.Lists.{IsWellFormed};
 ghost use Rattle.dl_theory.specs.Listings.{Mentions};
 
 use crate::graph::{Graph, Source};
+use crate::graph_names::GraphNames;
 use crate::index::Index;
 use crate::link::Link;
 use crate::load::index_of;
@@ -17,6 +18,7 @@ use crate::names::PairedNames;
 use crate::number::mark_facts;
 use crate::staged::Staged;
 use crate::table::Table;
+use crate::whole_pairs::WholePairs;
 use dl_base::Memory;
 use dl_lit::Literal;
 use dl_theory::{Pair, Rule, Theory};
@@ -29,7 +31,7 @@ use std::marker::Model;
 #[derive(Drop)]
 pub struct Net {
     pub(crate) staged: Staged,
-    pub(crate) names: PairedNames,
+    pub(crate) names: PairedNames<WholePairs>,
     /// By number, whether the literal is a fact.
     pub(crate) facts: Table<bool>,
     pub(crate) index: Index,
@@ -62,7 +64,7 @@ impl Net {
         Net::whole(theory, names, facts, index, false)
     }
 
-    /// The net of a whole theory, in one pass over its facts, rules and pairs.
+    /// The net of a whole theory. `Memory` where there is none for it.
     pub fn of(alloc: Global, theory: Theory) -> Result<Net, Memory>
         ensures theory { IfOk result (λ net. net.theory ≡ theory) }
         ensures pending { IfOk result (λ net. net.pending ≡ None) }
@@ -78,7 +80,7 @@ impl Net {
     /// A net of these parts.
     pub(crate) fn whole(
         theory: Theory,
-        names: PairedNames,
+        names: PairedNames<WholePairs>,
         facts: Table<bool>,
         index: Index,
         frozen: bool,
@@ -113,7 +115,7 @@ impl Net {
         ensures { result ≡ record self.now { pending = None; frozen = false } }
     {
         Graph {
-            names: &self.names,
+            names: GraphNames::Whole(&self.names),
             facts: &self.facts,
             index: &self.index,
             source: Source::Staged(&self.staged),
@@ -143,7 +145,10 @@ impl Net {
         requires { number < length self.now.names }
         ensures { result.now ≡ literal_at self.now number }
     {
-        self.graph().literal(number)
+        match self.names.whole(number) {
+            Some(literal) => literal,
+            None => unreachable!(),
+        }
     }
 
     /// The number of the complement.

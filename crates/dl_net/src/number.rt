@@ -10,9 +10,11 @@ ghost use Rattle.dl_net.specs.Lines.{once_or};
 use crate::body::BodyNumbers;
 use crate::entry::Entry;
 use crate::names::PairedNames;
+use crate::pair_set::PairSet;
 use crate::region::Region;
 use crate::row::Row;
 use crate::table::Table;
+use crate::whole_pairs::WholePairs;
 use dl_base::Memory;
 use dl_lit::Literal;
 use dl_theory::{Kind, Rule};
@@ -23,8 +25,8 @@ const BODY_LIMIT: usize = 0x400_0000;
 
 /// The number of a literal, which gets one beside its complement if it has none. One that is likely to be new is put in before it is sought.
 #[inline(always)]
-fn number_literal(
-    names: &mut PairedNames,
+fn number_literal<P: PairSet>(
+    names: &mut PairedNames<P>,
     literal: &Literal,
     likely_new: bool,
 ) -> Result<u32, Memory>
@@ -42,9 +44,9 @@ fn number_literal(
 
 /// The numbers of literals, which get some beside their complements where they have none.
 #[inline(always)]
-fn number_literals(
+fn number_literals<P: PairSet>(
     alloc: Global,
-    names: &mut PairedNames,
+    names: &mut PairedNames<P>,
     literals: &[Literal],
 ) -> Result<Row, Memory>
     requires paired { IsPaired names.old.literals }
@@ -66,9 +68,9 @@ fn number_literals(
 /// A rule by the numbers of its literals, which get some beside their complements where they have none.
 // inlined always, with what it calls: the rule's numbers are then made where they are kept
 #[inline(always)]
-pub(crate) fn number_rule(
+pub(crate) fn number_rule<P: PairSet>(
     alloc: Global,
-    names: &mut PairedNames,
+    names: &mut PairedNames<P>,
     seen: &mut Region,
     rule: &Rule,
 ) -> Result<Entry, Memory>
@@ -178,8 +180,8 @@ fn once_len(numbers: &[u32]) -> usize
 }
 
 /// The number of a fact, which gets one beside its complement if it has none, and a mark that is not set.
-pub(crate) fn number_fact(
-    names: &mut PairedNames,
+pub(crate) fn number_fact<P: PairSet>(
+    names: &mut PairedNames<P>,
     marks: &mut Table<bool>,
     fact: &Literal,
 ) -> Result<u32, Memory>
@@ -202,7 +204,11 @@ pub(crate) fn number_fact(
 }
 
 /// Marks one more fact, by its number.
-fn mark_fact(names: &mut PairedNames, marks: &mut Table<bool>, fact: &Literal) -> Result<(), Memory>
+fn mark_fact(
+    names: &mut PairedNames<WholePairs>,
+    marks: &mut Table<bool>,
+    fact: &Literal,
+) -> Result<(), Memory>
     requires { IsPaired names.old.literals }
     ensures paired { OnOk result (IsPaired names.new.literals) }
     ensures distinct { OnOk result (IsDistinct names.new.literals) }
@@ -219,7 +225,7 @@ fn mark_fact(names: &mut PairedNames, marks: &mut Table<bool>, fact: &Literal) -
 /// By number, whether the literal is a fact. Facts get numbers beside their complements where they have none.
 pub(crate) fn mark_facts(
     alloc: Global,
-    names: &mut PairedNames,
+    names: &mut PairedNames<WholePairs>,
     facts: &[Literal],
 ) -> Result<Table<bool>, Memory>
     requires { IsPaired names.old.literals }

@@ -8,6 +8,7 @@ ghost use Rattle.dl_theory.specs.Lists.{TheoryLists};
 ghost use Rattle.dl_theory.specs.Edits.{HasLabel, IsAccepted, IsStopped, after_edit, after_edits, additions, AreAccepted, IsPairsStop};
 ghost use Rattle.dl_net.specs.Named.{HasFacts};
 
+use crate::atom_pairs::AtomPairs;
 use crate::labels::keep_first;
 use crate::lines::Lines;
 use crate::load::load_rule;
@@ -33,7 +34,7 @@ pub struct NumberedTheory {
     /// The facts by number, in the order in which they came.
     pub(crate) order: Table<u32>,
     pub(crate) pairs: RulePairs,
-    pub(crate) names: PairedNames,
+    pub(crate) names: PairedNames<AtomPairs>,
     /// By number, whether the literal is a fact.
     pub(crate) facts: Table<bool>,
     /// The rules by the numbers of their literals. They are found by these when all are there.
@@ -160,7 +161,7 @@ fn label_there(label: &Name) -> EditStop
 }
 
 /// Whether a literal is a fact, by the marks of facts.
-fn holds_fact(names: &PairedNames, marks: &Table<bool>, fact: &Literal) -> bool
+fn holds_fact(names: &PairedNames<AtomPairs>, marks: &Table<bool>, fact: &Literal) -> bool
     ensures { (qs : List Literal) → All (Contains names.now.literals) qs → HasFacts names.now.literals qs marks.now.items → (IsTrue result ↔ Contains qs fact.now) }
 {
     match names.find(fact) {

@@ -2,8 +2,11 @@
 
 ghost use Rattle.std.specs.Prelude.{◌≡◌, IfOk};
 
+use crate::atom_pairs::AtomPairs;
 use crate::graph::{Graph, Kept, Source};
+use crate::graph_names::GraphNames;
 use crate::index::Index;
+use crate::link_counts::LinkCounts;
 use crate::load::load_pairs;
 use crate::names::PairedNames;
 use crate::numbered::NumberedTheory;
@@ -21,7 +24,7 @@ pub struct NumberedNet {
     /// The facts by number, in the order in which they came.
     order: Table<u32>,
     pairs: RulePairs,
-    names: PairedNames,
+    names: PairedNames<AtomPairs>,
     /// By number, whether the literal is a fact.
     facts: Table<bool>,
     index: Index,
@@ -54,7 +57,8 @@ impl NumberedNet {
             seen: _,
         } = theory;
         let alloc = order.alloc();
-        let mut index = Index::of(alloc, lines, names.len())?;
+        let links = LinkCounts::count(alloc, &lines, &pairs)?;
+        let mut index = Index::of(alloc, lines, names.len(), &links)?;
         load_pairs(&mut index, &names, &pairs)?;
         Ok(NumberedNet {
             labels,
@@ -73,7 +77,7 @@ impl NumberedNet {
     {
         let _count = self.names.len();
         Graph {
-            names: &self.names,
+            names: GraphNames::Atoms(&self.names),
             facts: &self.facts,
             index: &self.index,
             source: Source::Kept(Kept {

@@ -3,6 +3,7 @@
 ghost use Rattle.std.specs.Prelude.{◌≡◌, ℕ, ◌+◌, ◌-◌, ◌<◌, ◌≤◌, ◌≢◌, ◌==◌, [], ◌∷◌, ◌++◌, OnOk, OnErr, IfOk, map, length, slice_get, set, if◌then◌else◌};
 ghost use Rattle.dl_net.specs.Tables.{no_table, list_at, spare_at, drop_item, KeepsLists, ends_with};
 
+use crate::lists::Lists;
 use crate::packed_rows::PackedRows;
 use crate::row::Row;
 use dl_base::Memory;
@@ -69,18 +70,6 @@ impl OpenRows {
         Ok(())
     }
 
-    /// A number at the end of a list. `Memory` where there is none for it.
-    #[inline(always)]
-    pub fn append(&mut self, number: usize, item: u32) -> Result<(), Memory>
-        requires { number < length self.old.lists }
-        ensures lists { OnOk result (self.new.lists ≡ set self.old.lists number (list_at self.old number ++ item ∷ [])) }
-        ensures kept { OnErr result (self.new.lists ≡ self.old.lists) }
-    {
-        self.reserve(number)?;
-        self.push(number, item);
-        Ok(())
-    }
-
     /// A number at the end of a list, in room that is there.
     pub fn push(&mut self, number: usize, item: u32)
         requires { 0 < spare_at self.old number }
@@ -90,12 +79,32 @@ impl OpenRows {
         let row = &mut self.rows[number];
         row.push_reserved(item);
     }
+}
 
-    /// Takes a number out of a list. Past the end no list has any.
-    pub fn remove(&mut self, number: usize, item: u32)
-        ensures lists { (n : ℕ) → list_at self.new n ≡ (if n == number then drop_item item (list_at self.old n) else list_at self.old n) }
-        ensures same { length self.new.lists ≡ length self.old.lists }
-    {
+impl Lists for OpenRows {
+    ghost lists = { λ t. t.lists };
+
+    #[inline(always)]
+    fn len(&self) -> usize {
+        self.rows.len()
+    }
+
+    #[inline(always)]
+    fn row(&self, number: usize) -> &[u32] {
+        match self.rows.get(number) {
+            None => &[],
+            Some(row) => row.as_slice(),
+        }
+    }
+
+    #[inline(always)]
+    fn append(&mut self, number: usize, item: u32) -> Result<(), Memory> {
+        self.reserve(number)?;
+        self.push(number, item);
+        Ok(())
+    }
+
+    fn remove(&mut self, number: usize, item: u32) {
         if number >= self.rows.len() {
             return;
         }
@@ -103,77 +112,11 @@ impl OpenRows {
         row.remove(item);
     }
 
-    /// Empties a list.
-    pub fn clear(&mut self, number: usize)
-        ensures lists { (n : ℕ) → list_at self.new n ≡ (if n == number then [] else list_at self.old n) }
-        ensures same { length self.new.lists ≡ length self.old.lists }
-    {
+    fn clear(&mut self, number: usize) {
         if number >= self.rows.len() {
             return;
         }
         let row = &mut self.rows[number];
         row.clear();
-    }
-
-    #[inline(always)]
-    pub fn len(&self) -> usize
-        ensures { result ≡ length self.now.lists }
-    {
-        self.rows.len()
-    }
-
-    /// The numbers of a list.
-    #[inline(always)]
-    pub fn row(&self, number: usize) -> &[u32]
-        ensures { result.now ≡ list_at self.now number }
-    {
-        match self.rows.get(number) {
-            None => &[],
-            Some(row) => row.as_slice(),
-        }
-    }
-
-    /// How many numbers a list has.
-    #[inline(always)]
-    pub fn count(&self, number: usize) -> usize
-        ensures { result ≡ length (list_at self.now number) }
-    {
-        match self.rows.get(number) {
-            None => 0,
-            Some(row) => row.len(),
-        }
-    }
-
-    /// The number at a place of a list.
-    #[inline(always)]
-    pub fn get(&self, number: usize, at: usize) -> Option<u32>
-        ensures { result ≡ slice_get (list_at self.now number) at }
-    {
-        match self.rows.get(number) {
-            None => None,
-            Some(row) => row.as_slice().get(at).copied(),
-        }
-    }
-
-    /// Whether this is the last number of a list.
-    #[inline(always)]
-    pub fn ends_with(&self, number: usize, item: u32) -> bool
-        ensures { result ≡ ends_with (list_at self.now number) item }
-    {
-        match self.rows.get(number) {
-            None => false,
-            Some(row) => ends_with(row.as_slice(), item),
-        }
-    }
-}
-
-/// Whether this is the last of the numbers.
-#[inline(always)]
-pub(crate) fn ends_with(row: &[u32], item: u32) -> bool
-    ensures { result ≡ ends_with row.now item }
-{
-    match row.last() {
-        None => false,
-        Some(last) => *last == item,
     }
 }

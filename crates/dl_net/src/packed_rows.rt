@@ -5,7 +5,7 @@ ghost use Rattle.dl_net.specs.Tables.{drop_item, ends_with};
 ghost use Rattle.dl_net.specs.Lines.{list_of};
 ghost use Rattle.dl_net.specs.Packed.{room_end};
 
-use crate::open_rows::ends_with;
+use crate::lists::Lists;
 use dl_base::Memory;
 use std::alloc::Global;
 use std::marker::Model;
@@ -63,14 +63,29 @@ impl PackedRows {
     pub fn alloc(&self) -> Global {
         *self.items.allocator()
     }
+}
 
-    /// A number at the end of a list. `Memory` where the list is full.
+impl Lists for PackedRows {
+    ghost lists = { λ t. t };
+
     #[inline(always)]
-    pub fn append(&mut self, number: usize, item: u32) -> Result<(), Memory>
-        requires { number < length self.old }
-        ensures lists { OnOk result (self.new ≡ set self.old number (list_of self.old number ++ item ∷ [])) }
-        ensures kept { OnErr result (self.new ≡ self.old) }
-    {
+    fn len(&self) -> usize {
+        self.spans.len()
+    }
+
+    #[inline(always)]
+    fn row(&self, number: usize) -> &[u32] {
+        match self.spans.get(number) {
+            None => &[],
+            Some(span) => {
+                let start = span.start as usize;
+                &self.items[start..start + span.len as usize]
+            }
+        }
+    }
+
+    #[inline(always)]
+    fn append(&mut self, number: usize, item: u32) -> Result<(), Memory> {
         let span = self.spans[number];
         let end = span.start as usize + span.len as usize;
         if end >= room_end(self.spans.as_slice(), number, self.items.len()) {
@@ -84,11 +99,7 @@ impl PackedRows {
         Ok(())
     }
 
-    /// Takes a number out of a list. Past the end no list has any.
-    pub fn remove(&mut self, number: usize, item: u32)
-        ensures lists { (n : ℕ) → list_of self.new n ≡ (if n == number then drop_item item (list_of self.old n) else list_of self.old n) }
-        ensures same { length self.new ≡ length self.old }
-    {
+    fn remove(&mut self, number: usize, item: u32) {
         if number >= self.spans.len() {
             return;
         }
@@ -101,11 +112,7 @@ impl PackedRows {
         };
     }
 
-    /// Empties a list.
-    pub fn clear(&mut self, number: usize)
-        ensures lists { (n : ℕ) → list_of self.new n ≡ (if n == number then [] else list_of self.old n) }
-        ensures same { length self.new ≡ length self.old }
-    {
+    fn clear(&mut self, number: usize) {
         if number >= self.spans.len() {
             return;
         }
@@ -114,51 +121,6 @@ impl PackedRows {
             start: span.start,
             len: 0,
         };
-    }
-
-    #[inline(always)]
-    pub fn len(&self) -> usize
-        ensures { result ≡ length self.now }
-    {
-        self.spans.len()
-    }
-
-    /// The numbers of a list.
-    #[inline(always)]
-    pub fn row(&self, number: usize) -> &[u32]
-        ensures { result.now ≡ list_of self.now number }
-    {
-        match self.spans.get(number) {
-            None => &[],
-            Some(span) => {
-                let start = span.start as usize;
-                &self.items[start..start + span.len as usize]
-            }
-        }
-    }
-
-    /// How many numbers a list has.
-    #[inline(always)]
-    pub fn count(&self, number: usize) -> usize
-        ensures { result ≡ length (list_of self.now number) }
-    {
-        self.row(number).len()
-    }
-
-    /// The number at a place of a list.
-    #[inline(always)]
-    pub fn get(&self, number: usize, at: usize) -> Option<u32>
-        ensures { result ≡ slice_get (list_of self.now number) at }
-    {
-        self.row(number).get(at).copied()
-    }
-
-    /// Whether this is the last number of a list.
-    #[inline(always)]
-    pub fn ends_with(&self, number: usize, item: u32) -> bool
-        ensures { result ≡ ends_with (list_of self.now number) item }
-    {
-        ends_with(self.row(number), item)
     }
 }
 

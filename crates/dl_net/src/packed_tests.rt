@@ -1,5 +1,6 @@
 //! Packed lists that are filled, thinned out and emptied.
 
+use crate::lists::Lists;
 use crate::rows::RowTable;
 use std::test::Fail;
 

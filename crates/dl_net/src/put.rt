@@ -6,6 +6,7 @@ ghost use Rattle.dl_net.specs.Lines.{is_in};
 
 use crate::entry::Entry;
 use crate::lines::Lines;
+use crate::lists::Lists;
 use crate::rows::RowTable;
 use crate::table::Table;
 use dl_base::Memory;
@@ -132,4 +133,23 @@ pub(crate) fn put_rule(
     lines.push(entry);
     order.push(rule);
     places.push(place);
+}
+
+/// A number at the end of a list of each table, at the other. `Memory` where there is no room or no list for it.
+pub(crate) fn append_both(
+    lowers: &mut RowTable,
+    uppers: &mut RowTable,
+    upper: u32,
+    lower: u32,
+) -> Result<(), Memory>
+    ensures lowers_wide { OnOk result (upper < length lowers.old.lists) }
+    ensures uppers_wide { OnOk result (lower < length uppers.old.lists) }
+    ensures lowers { OnOk result (lowers.new.lists ≡ set lowers.old.lists upper (list_at lowers.old upper ++ lower ∷ [])) }
+    ensures uppers { OnOk result (uppers.new.lists ≡ set uppers.old.lists lower (list_at uppers.old lower ++ upper ∷ [])) }
+{
+    if upper as usize >= lowers.len() || lower as usize >= uppers.len() {
+        return Err(Memory);
+    }
+    lowers.append(upper as usize, lower)?;
+    uppers.append(lower as usize, upper)
 }

@@ -16,6 +16,7 @@ use crate::names::PairedNames;
 use crate::number::number_fact;
 use crate::staged::Staged;
 use crate::table::Table;
+use crate::whole_pairs::WholePairs;
 use dl_base::Memory;
 use dl_lit::Literal;
 use dl_theory::{Edit, Pair};
@@ -26,7 +27,7 @@ pub(crate) fn take_room(
     alloc: Global,
     edit: &Edit,
     staged: &Staged,
-    names: &mut PairedNames,
+    names: &mut PairedNames<WholePairs>,
     facts: &mut Table<bool>,
     index: &mut Index,
 ) -> Result<(), Memory>
@@ -54,7 +55,7 @@ pub(crate) fn take_room(
 /// Room for a fact, which gets a number with its complement.
 fn room_for_fact(
     fact: &Literal,
-    names: &mut PairedNames,
+    names: &mut PairedNames<WholePairs>,
     facts: &mut Table<bool>,
 ) -> Result<(), Memory>
     requires { IsPaired names.old.literals }
@@ -72,7 +73,7 @@ fn room_for_fact(
 fn room_for_pair(
     pair: &Pair,
     staged: &Staged,
-    names: &PairedNames,
+    names: &PairedNames<WholePairs>,
     index: &mut Index,
 ) -> Result<(), Memory>
     requires labels { HasBoth staged.now.theory pair.now }

@@ -3,6 +3,7 @@
 ghost use Rattle.std.specs.Prelude.{◌≡◌, ℕ, ◌+◌, ◌<◌, ◌≤◌, ◌≢◌, ◌==◌, [], ◌∷◌, ◌++◌, OnOk, OnErr, IfOk, map, length, slice_get, set, if◌then◌else◌};
 ghost use Rattle.dl_net.specs.Tables.{no_table, list_at, spare_at, drop_item, KeepsLists, ends_with};
 
+use crate::lists::Lists;
 use crate::open_rows::OpenRows;
 use crate::packed_rows::PackedRows;
 use dl_base::Memory;
@@ -87,19 +88,6 @@ impl RowTable {
         }
     }
 
-    /// A number at the end of a list. `Memory` where there is none for it, or where the lists are packed and this one is full.
-    #[inline(always)]
-    pub fn append(&mut self, number: usize, item: u32) -> Result<(), Memory>
-        requires { number < length self.old.lists }
-        ensures lists { OnOk result (self.new.lists ≡ set self.old.lists number (list_at self.old number ++ item ∷ [])) }
-        ensures kept { OnErr result (self.new.lists ≡ self.old.lists) }
-    {
-        match &mut self.rows {
-            Rows::Open(rows) => rows.append(number, item),
-            Rows::Packed(rows) => rows.append(number, item),
-        }
-    }
-
     /// A number at the end of a list, in room that is there.
     pub fn push(&mut self, number: usize, item: u32)
         requires { 0 < spare_at self.old number }
@@ -112,80 +100,46 @@ impl RowTable {
             Rows::Packed(_) => unreachable!(),
         }
     }
+}
 
-    /// Takes a number out of a list. Past the end no list has any.
-    pub fn remove(&mut self, number: usize, item: u32)
-        ensures lists { (n : ℕ) → list_at self.new n ≡ (if n == number then drop_item item (list_at self.old n) else list_at self.old n) }
-        ensures same { length self.new.lists ≡ length self.old.lists }
-    {
-        match &mut self.rows {
-            Rows::Open(rows) => rows.remove(number, item),
-            Rows::Packed(rows) => rows.remove(number, item),
-        }
-    }
-
-    /// Empties a list.
-    pub fn clear(&mut self, number: usize)
-        ensures lists { (n : ℕ) → list_at self.new n ≡ (if n == number then [] else list_at self.old n) }
-        ensures same { length self.new.lists ≡ length self.old.lists }
-    {
-        match &mut self.rows {
-            Rows::Open(rows) => rows.clear(number),
-            Rows::Packed(rows) => rows.clear(number),
-        }
-    }
+impl Lists for RowTable {
+    ghost lists = { λ t. t.lists };
 
     #[inline(always)]
-    pub fn len(&self) -> usize
-        ensures { result ≡ length self.now.lists }
-    {
+    fn len(&self) -> usize {
         match &self.rows {
             Rows::Open(rows) => rows.len(),
             Rows::Packed(rows) => rows.len(),
         }
     }
 
-    /// The numbers of a list.
     #[inline(always)]
-    pub fn row(&self, number: usize) -> &[u32]
-        ensures { result.now ≡ list_at self.now number }
-    {
+    fn row(&self, number: usize) -> &[u32] {
         match &self.rows {
             Rows::Open(rows) => rows.row(number),
             Rows::Packed(rows) => rows.row(number),
         }
     }
 
-    /// How many numbers a list has.
     #[inline(always)]
-    pub fn count(&self, number: usize) -> usize
-        ensures { result ≡ length (list_at self.now number) }
-    {
-        match &self.rows {
-            Rows::Open(rows) => rows.count(number),
-            Rows::Packed(rows) => rows.count(number),
+    fn append(&mut self, number: usize, item: u32) -> Result<(), Memory> {
+        match &mut self.rows {
+            Rows::Open(rows) => rows.append(number, item),
+            Rows::Packed(rows) => rows.append(number, item),
         }
     }
 
-    /// The number at a place of a list.
-    #[inline(always)]
-    pub fn get(&self, number: usize, at: usize) -> Option<u32>
-        ensures { result ≡ slice_get (list_at self.now number) at }
-    {
-        match &self.rows {
-            Rows::Open(rows) => rows.get(number, at),
-            Rows::Packed(rows) => rows.get(number, at),
+    fn remove(&mut self, number: usize, item: u32) {
+        match &mut self.rows {
+            Rows::Open(rows) => rows.remove(number, item),
+            Rows::Packed(rows) => rows.remove(number, item),
         }
     }
 
-    /// Whether this is the last number of a list.
-    #[inline(always)]
-    pub fn ends_with(&self, number: usize, item: u32) -> bool
-        ensures { result ≡ ends_with (list_at self.now number) item }
-    {
-        match &self.rows {
-            Rows::Open(rows) => rows.ends_with(number, item),
-            Rows::Packed(rows) => rows.ends_with(number, item),
+    fn clear(&mut self, number: usize) {
+        match &mut self.rows {
+            Rows::Open(rows) => rows.clear(number),
+            Rows::Packed(rows) => rows.clear(number),
         }
     }
 }

@@ -6,6 +6,7 @@ ghost use Rattle.dl_net.specs.Lines.{IsWithin, line_at, is_in};
 ghost use Rattle.dl_net.specs.Indexes.{HasRules};
 
 use crate::lines::Lines;
+use crate::lists::Lists;
 use crate::rows::RowTable;
 use crate::table::Table;
 use dl_base::Memory;
@@ -141,9 +142,10 @@ fn count_each(counts: &mut Vec<u32>, numbers: &[u32])
 
 /// Counts a number once more. A count that is full stays, and then there is no room for so many.
 #[inline(always)]
-fn count_one(counts: &mut Vec<u32>, number: usize)
-    requires { number < length counts.old.items }
+pub(crate) fn count_one(counts: &mut Vec<u32>, number: usize)
     ensures { length counts.new.items ≡ length counts.old.items }
 {
-    counts[number] = counts[number].saturating_add(1);
+    if let Some(count) = counts.get_mut(number) {
+        *count = count.saturating_add(1);
+    }
 }

@@ -13,6 +13,7 @@ use crate::load::meet;
 use crate::names::PairedNames;
 use crate::staged::Staged;
 use crate::table::Table;
+use crate::whole_pairs::WholePairs;
 use dl_lit::{Literal, Name};
 use dl_theory::{Edit, Pair, Rule};
 
@@ -20,7 +21,7 @@ use dl_theory::{Edit, Pair, Rule};
 pub(crate) fn change_tables(
     edit: &Edit,
     staged: &Staged,
-    names: &PairedNames,
+    names: &PairedNames<WholePairs>,
     facts: &mut Table<bool>,
     index: &mut Index,
 )
@@ -42,7 +43,7 @@ pub(crate) fn change_tables(
 }
 
 /// The rule for which there is room goes last.
-fn add_rule(_rule: &Rule, _staged: &Staged, _names: &PairedNames, index: &mut Index)
+fn add_rule(_rule: &Rule, _staged: &Staged, _names: &PairedNames<WholePairs>, index: &mut Index)
     requires accepted { IsAccepted _staged.now.theory (Edit.AddRule _rule.now) }
     requires ready { index.old.ready ≡ Some (line_in _names.now.literals _rule.now) }
     requires index { HasIndex (numbered _staged.now.theory _names.now.literals) index.old }
@@ -65,7 +66,12 @@ fn drop_rule(label: &Name, staged: &Staged, index: &mut Index)
 }
 
 /// A literal becomes a fact.
-fn add_fact(fact: &Literal, _staged: &Staged, names: &PairedNames, facts: &mut Table<bool>)
+fn add_fact(
+    fact: &Literal,
+    _staged: &Staged,
+    names: &PairedNames<WholePairs>,
+    facts: &mut Table<bool>,
+)
     requires named { Contains names.now.literals fact.now }
     requires room { number_in names.now.literals fact.now < length facts.old.items }
     requires facts { HasFacts names.now.literals _staged.now.theory.facts facts.old.items }
@@ -78,7 +84,12 @@ fn add_fact(fact: &Literal, _staged: &Staged, names: &PairedNames, facts: &mut T
 }
 
 /// A literal is no fact any more.
-fn drop_fact(fact: &Literal, staged: &Staged, names: &PairedNames, facts: &mut Table<bool>)
+fn drop_fact(
+    fact: &Literal,
+    staged: &Staged,
+    names: &PairedNames<WholePairs>,
+    facts: &mut Table<bool>,
+)
     requires accepted { IsAccepted staged.now.theory (Edit.DropFact fact.now) }
     requires named { All (Contains names.now.literals) staged.now.theory.facts }
     requires facts { HasFacts names.now.literals staged.now.theory.facts facts.old.items }
@@ -92,7 +103,7 @@ fn drop_fact(fact: &Literal, staged: &Staged, names: &PairedNames, facts: &mut T
 }
 
 /// Where the rules of a pair meet, the lower one goes below the upper one.
-fn add_pair(pair: &Pair, staged: &Staged, names: &PairedNames, index: &mut Index)
+fn add_pair(pair: &Pair, staged: &Staged, names: &PairedNames<WholePairs>, index: &mut Index)
     requires accepted { IsAccepted staged.now.theory (Edit.AddPair pair.now) }
     requires distinct { IsDistinct names.now.literals }
     requires paired { IsPaired names.now.literals }

@@ -7,6 +7,7 @@ ghost use Rattle.dl_net.specs.Lines.{is_in, no_line, line_at};
 ghost use Rattle.dl_net.specs.Indexes.{place_in};
 
 use crate::lines::Lines;
+use crate::lists::Lists;
 use crate::rows::RowTable;
 use crate::table::Table;
 

@@ -3,12 +3,13 @@
 ghost use Rattle.std.specs.Prelude.{◌≡◌};
 ghost use Rattle.dl_io.specs.Outside.{HasCause};
 ghost use Rattle.dl_io.specs.Streams.{WritesAll};
+ghost use Rattle.dl_lit.specs.Borrowed.{literal_of};
 ghost use Rattle.dl_print.specs.Conclusion.{verdict_byte, verdict_text, conclusion_text};
 
 use crate::requests::family_letter;
-use crate::write::write_literal;
+use crate::write::write_borrowed;
 use dl_io::{Failed, Sink, write_all};
-use dl_lit::{Family, Literal};
+use dl_lit::{Family, LiteralRef};
 use dl_theory::Verdict;
 
 pub(crate) fn verdict_byte(verdict: Verdict) -> u8
@@ -35,12 +36,12 @@ pub fn write_conclusion<S: Sink>(
     sink: &mut S,
     verdict: Verdict,
     family: Family,
-    literal: &Literal,
+    literal: LiteralRef<'_>,
 ) -> Result<(), Failed>
-    ensures bytes { WritesAll (S.written sink.old) (S.written sink.new) result (conclusion_text verdict family literal.now) }
+    ensures bytes { WritesAll (S.written sink.old) (S.written sink.new) result (conclusion_text verdict family (literal_of literal.entry)) }
     ensures cause { HasCause (S.faults sink.old) (S.faults sink.new) result }
     ensures name { S.name sink.new ≡ S.name sink.old }
 {
     write_verdict(sink, verdict, family)?;
-    write_literal(sink, literal)
+    write_borrowed(sink, literal)
 }

@@ -2,13 +2,15 @@
 
 ghost use Rattle.std.specs.Prelude.{◌≡◌, ◌+◌, ◌<◌, ◌≤◌, ◌++◌, IfSome, IfNone, length};
 ghost use Rattle.std.specs.Vec.{vec_len, vec_capacity};
+ghost use Rattle.std.specs.Option.{option_copied};
+ghost use Rattle.dl_lit.specs.Borrowed.{literal_of};
 ghost use Rattle.dl_print.specs.Text.{mode_text, sign_text, literal_text};
 ghost use Rattle.dl_print.specs.Conclusion.{conclusion_text};
 ghost use Rattle.dl_print.specs.Room.{HasRoom, Puts, mode_room, conclusion_room};
 
 use crate::conclusion::verdict_byte;
 use crate::requests::family_letter;
-use dl_lit::{Family, Literal, Name};
+use dl_lit::{Family, LiteralRef, Name};
 use dl_theory::Verdict;
 
 /// The bytes of a conclusion beside its atom and its mode, at most: the verdict, the brackets and the sign.
@@ -27,9 +29,9 @@ fn put(text: &mut Vec<u8>, bytes: &[u8])
 }
 
 #[inline(always)]
-fn put_mode(text: &mut Vec<u8>, mode: &Option<Name>)
-    requires { HasRoom text.old (mode_text mode.now) }
-    ensures { Puts text.old text.new (mode_text mode.now) }
+fn put_mode(text: &mut Vec<u8>, mode: Option<&Name>)
+    requires { HasRoom text.old (mode_text (option_copied mode)) }
+    ensures { Puts text.old text.new (mode_text (option_copied mode.entry)) }
 {
     if let Some(mode) = mode {
         text.push_reserved(b'[');
@@ -49,27 +51,27 @@ fn put_sign(text: &mut Vec<u8>, positive: bool)
 }
 
 #[inline(always)]
-fn put_literal(text: &mut Vec<u8>, literal: &Literal)
-    requires { HasRoom text.old (literal_text literal.now) }
-    ensures { Puts text.old text.new (literal_text literal.now) }
+fn put_literal(text: &mut Vec<u8>, literal: LiteralRef<'_>)
+    requires { HasRoom text.old (literal_text (literal_of literal)) }
+    ensures { Puts text.old text.new (literal_text (literal_of literal.entry)) }
 {
-    put_mode(text, &literal.mode);
+    put_mode(text, literal.mode);
     put_sign(text, literal.positive);
     put(text, literal.atom.bytes());
 }
 
 /// Puts a verdict in a family on a literal, without an LF, behind a text that has room for it.
 #[inline(always)]
-pub fn put_conclusion(text: &mut Vec<u8>, verdict: Verdict, family: Family, literal: &Literal)
-    requires { HasRoom text.old (conclusion_text verdict family literal.now) }
-    ensures { Puts text.old text.new (conclusion_text verdict family literal.now) }
+pub fn put_conclusion(text: &mut Vec<u8>, verdict: Verdict, family: Family, literal: LiteralRef<'_>)
+    requires { HasRoom text.old (conclusion_text verdict family (literal_of literal)) }
+    ensures { Puts text.old text.new (conclusion_text verdict family (literal_of literal.entry)) }
 {
     put(text, &[verdict_byte(verdict), family_letter(family), b' ']);
     put_literal(text, literal);
 }
 
-fn mode_len(mode: &Option<Name>) -> usize
-    ensures { result ≡ mode_room mode.now }
+fn mode_len(mode: Option<&Name>) -> usize
+    ensures { result ≡ mode_room (option_copied mode.entry) }
 {
     match mode {
         None => 0,
@@ -79,12 +81,12 @@ fn mode_len(mode: &Option<Name>) -> usize
 
 /// What room is left behind the most that a conclusion on a literal takes; `None` exactly where there is not so much.
 #[inline(always)]
-pub fn room_behind(literal: &Literal, room: usize) -> Option<usize>
-    ensures left { IfSome result (λ left. left + conclusion_room literal.now ≡ room) }
-    ensures full { IfNone result (room < conclusion_room literal.now) }
-    ensures enough { (verdict : Verdict) → (family : Family) → length (conclusion_text verdict family literal.now) ≤ conclusion_room literal.now }
+pub fn room_behind(literal: LiteralRef<'_>, room: usize) -> Option<usize>
+    ensures left { IfSome result (λ left. left + conclusion_room (literal_of literal.entry) ≡ room) }
+    ensures full { IfNone result (room < conclusion_room (literal_of literal.entry)) }
+    ensures enough { (verdict : Verdict) → (family : Family) → length (conclusion_text verdict family (literal_of literal.entry)) ≤ conclusion_room (literal_of literal.entry) }
 {
     let left = room.checked_sub(BESIDE)?;
-    let left = left.checked_sub(mode_len(&literal.mode))?;
+    let left = left.checked_sub(mode_len(literal.mode))?;
     left.checked_sub(literal.atom.bytes().len())
 }

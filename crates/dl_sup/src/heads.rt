@@ -39,26 +39,6 @@ impl Heads {
         }
     }
 
-    /// The number 0 for each item, those below a length in the plain list.
-    pub(crate) fn zeros(alloc: Global, len: usize) -> Result<Heads, Memory>
-        ensures { IfOk result (λ heads. (q : ℕ) → head_of heads q ≡ 0) }
-    {
-        let mut near = Vec::new(alloc);
-        near.resize(len, 0usize)?;
-        Ok(Heads {
-            near,
-            far: HashMap::new(alloc),
-            puts: 0,
-        })
-    }
-
-    /// How many items stand in the plain list.
-    pub(crate) fn width(&self) -> usize
-        ensures { result ≡ length self.now.near }
-    {
-        self.near.len()
-    }
-
     pub(crate) fn get(&self, item: usize) -> usize
         ensures { result ≡ head_of self.now item }
     {

@@ -6,21 +6,18 @@ ghost use Rattle.dl_sup.specs.Loading.{IsLoaded, HasFront};
 
 use crate::link::Link;
 use crate::table::Table;
+use crate::whole::is_order;
 use dl_base::Memory;
 
-/// The pairs of an order and more behind them, if ranks show that these are an order.
+/// The pairs of an order and more behind them, if a fast check sees that these are an order.
 fn load(base: &Table, links: &[Link]) -> Result<Option<Table>, Memory>
-    requires { IsOrder base.now }
     ensures { IfOk result (λ loaded. IfSome loaded (IsLoaded base.now links.now)) }
 {
-    let mut table = base.copy()?;
-    if !table.put_all(links)? {
+    let all = base.with(links)?;
+    if !is_order(base.alloc(), all.as_slice())? {
         return Ok(None);
     }
-    if !table.is_ranked()? {
-        return Ok(None);
-    }
-    Ok(Some(table))
+    Ok(Some(Table::of(base.alloc(), all.as_slice())?))
 }
 
 /// Loads pairs into a table, if that gives an order.

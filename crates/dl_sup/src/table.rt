@@ -5,7 +5,6 @@ ghost use Rattle.std.specs.Prelude.{◌≡◌, ℕ, ◌<◌, ◌≢◌, [], ◌�
 use crate::heads::Heads;
 use crate::link::Link;
 use crate::places::Places;
-use crate::ranking::{rank, rises};
 use crate::search::search;
 use crate::slot::{Slot, Way, older};
 use crate::track::Track;
@@ -149,27 +148,31 @@ impl Table {
         Ok(fresh)
     }
 
-    /// Adds new pairs at the end, up to the first that is there already, and says whether there was none.
-    pub(crate) fn put_all(&mut self, links: &[Link]) -> Result<bool, Memory>
-        requires { IsDistinct self.old }
-        ensures { IfOk result (λ whole. whole ≡ true → (self.new ≡ self.old ++ links.now) × IsDistinct self.new) }
+    /// The pairs, and more behind them.
+    pub(crate) fn with(&self, more: &[Link]) -> Result<Vec<Link>, Memory>
+        ensures { IfOk result (λ all. all.items ≡ self.now ++ more.now) }
     {
-        self.reserve(links.len())?;
-        for link in links {
-            if self.has(*link) {
-                return Ok(false);
+        let mut all = Vec::with_capacity(self.alloc(), self.slots.len())?;
+        for slot in self.slots.iter() {
+            if slot.alive {
+                all.push(slot.link)?;
             }
-            self.put(*link)?;
         }
-        Ok(true)
+        all.extend_from_slice(more)?;
+        Ok(all)
     }
 
-    /// Whether ranks were found along which all pairs rise.
-    pub(crate) fn is_ranked(&self) -> Result<bool, Memory>
-        ensures { IfOk result (λ ranked. ranked ≡ true → ¬ HasCycle (IsOver self.now)) }
+    /// The list of these pairs.
+    pub(crate) fn of(alloc: Global, links: &[Link]) -> Result<Table, Memory>
+        requires { IsDistinct links.now }
+        ensures { IfOk result (λ table. table ≡ links.now) }
     {
-        let ranks = rank(self.alloc(), self.slots.as_slice(), &self.downs)?;
-        Ok(rises(self.slots.as_slice(), &ranks))
+        let mut table = Table::make(alloc);
+        table.reserve(links.len())?;
+        for link in links {
+            table.put(*link)?;
+        }
+        Ok(table)
     }
 
     /// Closes the gaps, where more than half of the places are empty.

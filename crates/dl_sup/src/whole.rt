@@ -1,4 +1,4 @@
-//! A fast check that a whole list of pairs is an order. Nothing is proved of how chains and ranks are made: two passes at the end see that they show what they are to show.
+//! A fast check that a whole list of pairs is an order. Nothing is proved of how chains, groups and ranks are made: two passes see that they show what they are to show.
 
 ghost use Rattle.std.specs.Prelude.{◌≡◌, ◌+◌, ◌<◌, ℕ, IsTrue, IfOk, true, get_or, length};
 ghost use Rattle.dl_base.specs.Paths.{IsDistinct};
@@ -26,10 +26,53 @@ struct Marks {
     stamps: Vec<u32>,
 }
 
+/// The lower items of the pairs, one behind another, those of each upper item together. They are read in that order, where the pairs
+/// themselves lie anywhere in memory.
+#[derive(Drop)]
+struct Groups {
+    /// Where those of each item end.
+    ends: Vec<u32>,
+    lowers: Vec<u32>,
+}
+
+impl Groups {
+    /// No items, with room for those of so many upper items and pairs.
+    fn make(alloc: Global, width: usize, pairs: usize) -> Result<Groups, Memory> {
+        Ok(Groups {
+            ends: Vec::with_capacity(alloc, width)?,
+            lowers: Vec::with_capacity(alloc, pairs)?,
+        })
+    }
+
+    /// One more item below the present one.
+    fn put(&mut self, lower: usize) -> Result<(), Memory> {
+        self.lowers.push(u32::try_from(lower).unwrap_or(0))?;
+        Ok(())
+    }
+
+    /// The present item has no more below it, and the next one is present.
+    fn end(&mut self) -> Result<(), Memory> {
+        let end = u32::try_from(self.lowers.len()).unwrap_or(0);
+        self.ends.push(end)?;
+        Ok(())
+    }
+
+    /// Where the items below an item begin, and where they end.
+    fn range(&self, item: usize) -> (u32, u32) {
+        let ends = self.ends.as_slice();
+        let start = match item.checked_sub(1) {
+            None => 0,
+            Some(before) => read(ends, before),
+        };
+        (start, read(ends, item))
+    }
+}
+
 /// Items in an order in which each stands behind all that are above it.
 #[derive(Drop)]
 struct Ranking {
-    chains: Chains,
+    groups: Groups,
+    above: Vec<u32>,
     /// The places of the entered items, counted from 1.
     ranks: Vec<u32>,
     entered: Vec<u32>,
@@ -44,10 +87,12 @@ pub(crate) fn is_order(alloc: Global, links: &[Link]) -> Result<bool, Memory>
         Some(width) => width,
     };
     let chains = chain(alloc, links, width as usize)?;
-    if !are_distinct(alloc, links, &chains, width)? {
+    let mut groups = Groups::make(alloc, width as usize, links.len())?;
+    if !are_distinct(alloc, links, &chains, &mut groups, width)? {
         return Ok(false);
     }
-    let ranks = rank(alloc, links, chains, width)?;
+    let Chains { above, .. } = chains;
+    let ranks = rank(alloc, groups, above, width)?;
     Ok(rise(links, ranks.as_slice()))
 }
 
@@ -109,8 +154,14 @@ fn behind(chains: &Chains, at: usize) -> usize
     (read(chains.next.as_slice(), at) as usize).min(at)
 }
 
-/// Whether the chains have each pair, and no lower item twice for an upper one.
-fn are_distinct(alloc: Global, links: &[Link], chains: &Chains, width: u32) -> Result<bool, Memory>
+/// Whether the chains have each pair, and no lower item twice for an upper one. On the way the lower items are grouped.
+fn are_distinct(
+    alloc: Global,
+    links: &[Link],
+    chains: &Chains,
+    groups: &mut Groups,
+    width: u32,
+) -> Result<bool, Memory>
     ensures { IfOk result (λ distinct. distinct ≡ true → IsDistinct links.now) }
 {
     let mut marks = Marks {
@@ -119,34 +170,43 @@ fn are_distinct(alloc: Global, links: &[Link], chains: &Chains, width: u32) -> R
         stamps: vec![in alloc; width; width as usize]?,
     };
     for item in 0..width {
-        if !pass(links, chains, &mut marks, item) {
+        if !pass(links, chains, &mut marks, groups, item)? {
             return Ok(false);
         }
+        groups.end()?;
     }
     Ok(all_met(marks.met.as_slice()))
 }
 
 /// Meets the pairs of an upper item, and says whether all are its pairs, and their lower items differ.
-fn pass(links: &[Link], chains: &Chains, marks: &mut Marks, item: u32) -> bool
+fn pass(
+    links: &[Link],
+    chains: &Chains,
+    marks: &mut Marks,
+    groups: &mut Groups,
+    item: u32,
+) -> Result<bool, Memory>
     requires { IsPassed links.now marks.old.met.items item }
-    ensures { IsTrue result → IsPassed links.now marks.new.met.items (item + 1) }
+    ensures { IfOk result (λ all. all ≡ true → IsPassed links.now marks.new.met.items (item + 1)) }
 {
     let mut cursor = read(chains.heads.as_slice(), item as usize) as usize;
     while cursor > 0 {
         cursor -= 1;
         if !meet(links, marks, cursor, item) {
-            return false;
+            return Ok(false);
         }
+        groups.put(links[cursor].lower)?;
         cursor = behind(chains, cursor);
     }
-    true
+    Ok(true)
 }
 
 /// Meets a pair, and says whether it is one of an upper item, with a lower item that has not the mark of that item.
 fn meet(links: &[Link], marks: &mut Marks, at: usize, item: u32) -> bool
     requires passed { IsPassed links.now marks.old.met.items (item + 1) }
     requires stamped { IsStamped links.now marks.old.met.items marks.old.stamps.items item }
-    ensures { IsTrue result → IsPassed links.now marks.new.met.items (item + 1) × IsStamped links.now marks.new.met.items marks.new.stamps.items item }
+    ensures within { IsTrue result → at < length links.now }
+    ensures met { IsTrue result → IsPassed links.now marks.new.met.items (item + 1) × IsStamped links.now marks.new.met.items marks.new.stamps.items item }
 {
     if at >= links.len() || at >= marks.met.len() {
         return false;
@@ -170,9 +230,10 @@ fn all_met(met: &[bool]) -> bool
 }
 
 /// Ranks of the items, along which all pairs rise where they have no cycle.
-fn rank(alloc: Global, links: &[Link], chains: Chains, width: u32) -> Result<Vec<u32>, Memory> {
+fn rank(alloc: Global, groups: Groups, above: Vec<u32>, width: u32) -> Result<Vec<u32>, Memory> {
     let mut ranking = Ranking {
-        chains,
+        groups,
+        above,
         ranks: vec![in alloc; 0; width as usize]?,
         entered: Vec::with_capacity(alloc, width as usize)?,
     };
@@ -182,7 +243,7 @@ fn rank(alloc: Global, links: &[Link], chains: Chains, width: u32) -> Result<Vec
             None => break,
             Some(item) => *item as usize,
         };
-        settle(&mut ranking, links, item)?;
+        settle(&mut ranking, item)?;
     }
     let Ranking { ranks, .. } = ranking;
     Ok(ranks)
@@ -191,7 +252,7 @@ fn rank(alloc: Global, links: &[Link], chains: Chains, width: u32) -> Result<Vec
 /// Enters the items that no pair is above.
 fn begin(ranking: &mut Ranking, width: u32) -> Result<(), Memory> {
     for item in 0..width {
-        if read(ranking.chains.above.as_slice(), item as usize) == 0 {
+        if read(ranking.above.as_slice(), item as usize) == 0 {
             enter(ranking, item as usize)?;
         }
     }
@@ -209,22 +270,19 @@ fn enter(ranking: &mut Ranking, item: usize) -> Result<(), Memory> {
 }
 
 /// Takes away the pairs below an item that was entered.
-fn settle(ranking: &mut Ranking, links: &[Link], item: usize) -> Result<(), Memory> {
-    let mut cursor = read(ranking.chains.heads.as_slice(), item) as usize;
-    while cursor > 0 {
-        cursor -= 1;
-        if let Some(link) = links.get(cursor) {
-            take(ranking, link.lower)?;
-        }
-        cursor = behind(&ranking.chains, cursor);
+fn settle(ranking: &mut Ranking, item: usize) -> Result<(), Memory> {
+    let (start, end) = ranking.groups.range(item);
+    for at in start..end {
+        let lower = read(ranking.groups.lowers.as_slice(), at as usize);
+        take(ranking, lower as usize)?;
     }
     Ok(())
 }
 
 /// Takes away a pair above an item, and enters the item where no other is left.
 fn take(ranking: &mut Ranking, item: usize) -> Result<(), Memory> {
-    let left = read(ranking.chains.above.as_slice(), item).saturating_sub(1);
-    if let Some(above) = ranking.chains.above.get_mut(item) {
+    let left = read(ranking.above.as_slice(), item).saturating_sub(1);
+    if let Some(above) = ranking.above.get_mut(item) {
         *above = left;
     }
     if left == 0 {

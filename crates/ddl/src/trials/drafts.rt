@@ -5,7 +5,7 @@ ghost use Rattle.std.specs.Prelude.{◌≡◌, ◌<◌};
 use crate::trials::texts::{AMBIGUOUS, PENGUIN, edit_of, tagged_of, theory_of};
 use dl_edition::Held;
 use dl_io::{MemorySink, write_all};
-use dl_lit::{Family, Memory, Tag};
+use dl_lit::{Family, LiteralRef, Memory, Tag};
 use dl_marks::{Marks, Steps};
 use dl_net::Net;
 use dl_print::write_conclusion;
@@ -191,7 +191,8 @@ fn conclusions(rt: &impl Abort, alloc: Global, held: &Held, family: Family) -> M
     let conclusions = held.conclusions(family).expect(rt, "room");
     let mut sink = MemorySink::make(alloc, Vec::new(alloc));
     for conclusion in conclusions.as_slice() {
-        let wrote = write_conclusion(&mut sink, conclusion.verdict, family, &conclusion.literal);
+        let literal = LiteralRef::of(&conclusion.literal);
+        let wrote = write_conclusion(&mut sink, conclusion.verdict, family, literal);
         assert!(rt; wrote.is_ok());
         let ended = write_all(&mut sink, b"\n");
         assert!(rt; ended.is_ok());

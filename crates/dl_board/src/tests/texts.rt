@@ -5,7 +5,7 @@ use crate::tests::acts::literal;
 use dl_calls::{Entry, write_entry};
 use dl_edition::{Conclusion, Held};
 use dl_io::{MemorySink, write_all};
-use dl_lit::{Family, Tagged};
+use dl_lit::{Family, LiteralRef, Tagged};
 use dl_print::{write_conclusion, write_tagged};
 use dl_theory::{Answer, Certificate, Verdict};
 use std::alloc::Global;
@@ -55,7 +55,8 @@ fn add_conclusion(
     conclusion: &Conclusion,
 ) {
     assert!(rt; conclusion.verdict == held.verdict(family, &conclusion.literal));
-    let wrote = write_conclusion(sink, conclusion.verdict, family, &conclusion.literal);
+    let literal = LiteralRef::of(&conclusion.literal);
+    let wrote = write_conclusion(sink, conclusion.verdict, family, literal);
     assert!(rt; wrote.is_ok());
     end_line(rt, sink);
 }

@@ -1,5 +1,6 @@
 use Rattle.std.proofs.Common.{◌<◌, [], ◌∷◌, length, ap, arith}
 use Rattle.std.proofs.lemmas.List.{length-append}
+use Rattle.dl_lit.specs.Borrowed.{literal_of}
 use Rattle.dl_edition.specs.declared.conclusion.Conclusion.{Conclusion}
 use Rattle.dl_print.specs.Conclusion.{conclusion_text}
 use Rattle.ddl.specs.Conclusions.{conclusion_line, lines_before}
@@ -10,7 +11,7 @@ pub loop-at-preserved : goal.loop-at-preserved
 loop-at-preserved c = λ family.
     let cs = c.args.conclusions.now in
     let i = c.loop-at.at in
-    let x : Conclusion = record { literal = c.at.result.0.now; verdict = c.at.result.1 } in
+    let x : Conclusion = record { literal = literal_of c.at.result.0; verdict = c.at.result.1 } in
     let within : i < length cs = omega (arith, c.loop-at-test.true, c.requires.within) in
     omega (
       arith,

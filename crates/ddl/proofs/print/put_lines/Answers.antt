@@ -1,5 +1,6 @@
 use Rattle.std.proofs.Common.{◌<◌, ◌+◌, length, ap, arith}
 use Rattle.std.proofs.lemmas.List.{length-append}
+use Rattle.dl_lit.specs.Borrowed.{literal_of}
 use Rattle.dl_edition.specs.declared.conclusion.Conclusion.{Conclusion}
 use Rattle.ddl.specs.Conclusions.{conclusion_line, lines_before}
 use Rattle.ddl.proofs.Lines.{next_line, no_shorter}
@@ -10,7 +11,7 @@ put_line-requires c =
     let f = c.args.family in
     let cs = c.args.conclusions.now in
     let i = c.loop-at.at in
-    let x : Conclusion = record { literal = c.at-verdict.result.0.now; verdict = c.at-verdict.result.1 } in
+    let x : Conclusion = record { literal = literal_of c.at-verdict.result.0; verdict = c.at-verdict.result.1 } in
     let within : i < length cs = omega (arith, c.loop-at-test.true, c.requires.within) in
     omega (
       arith,

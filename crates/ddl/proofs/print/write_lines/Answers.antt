@@ -3,6 +3,7 @@ use Rattle.std.specs.List.{flat_map}
 use Rattle.std.specs.Io.KnownBytes.{append_known}
 use Rattle.std.proofs.lemmas.List.{get_or-take, length-take-le}
 use Rattle.std.proofs.lemmas.Result.{err_from_is_err_and}
+use Rattle.dl_lit.specs.Borrowed.{literal_of}
 use Rattle.dl_edition.specs.declared.conclusion.Conclusion.{Conclusion}
 use Rattle.dl_print.proofs.Writes.{cut_line, line_more}
 use Rattle.ddl.specs.Conclusions.{conclusion_line, lines_before}
@@ -17,7 +18,7 @@ returns-in_err-write_line-clause-bytes g c = λ before start.
     let cs = c.args.conclusions.now in
     let i = c.loop-at.at in
     let to = c.args.to in
-    let x : Conclusion = record { literal = c.at-verdict.result.0.now; verdict = c.at-verdict.result.1 } in
+    let x : Conclusion = record { literal = literal_of c.at-verdict.result.0; verdict = c.at-verdict.result.1 } in
     let below : i < to = omega (arith, c.loop-at-test.true) in
     let within : i < length cs = omega (arith, below, c.requires.within) in
     let before_it = ap (λ (xs : List Conclusion). append_known before (flat_map f xs)) (sym (take-take i to cs (omega (arith, below)))) in
@@ -29,7 +30,7 @@ pub loop-at-preserved : goal.loop-at-preserved
 loop-at-preserved g c =
     let cs = c.args.conclusions.now in
     let i = c.loop-at.at in
-    let x : Conclusion = record { literal = c.at-verdict.result.0.now; verdict = c.at-verdict.result.1 } in
+    let x : Conclusion = record { literal = literal_of c.at-verdict.result.0; verdict = c.at-verdict.result.1 } in
     let within : i < length cs = omega (arith, c.loop-at-test.true, c.requires.within) in
     record {
       bytes = λ before start.

@@ -91,3 +91,7 @@ returns-clause-same c = λ h.
 pub returns-in_err-index-clause-same : goal.returns-in_err-index-clause-same
 returns-in_err-index-clause-same c = λ h.
     c.load_rules.ensures.same (subst (λ (rs : List Rule). All (HasLiterals c.args.names.now.literals) rs) (sym c.rules.ensures.value) h)
+
+pub returns-in_err-links-clause-same : goal.returns-in_err-links-clause-same
+returns-in_err-links-clause-same c = λ h.
+    c.load_rules.ensures.same (subst (λ (rs : List Rule). All (HasLiterals c.args.names.now.literals) rs) (sym c.rules.ensures.value) h)

@@ -1,10 +1,10 @@
-use Rattle.std.proofs.Common.{ℕ, ◌++◌, ◌∷◌, [], List, take, ap, sym, subst, ◌∙◌}
+use Rattle.std.proofs.Common.{◌≡◌, ℕ, ◌+◌, ◌++◌, ◌∷◌, [], List, take, get_or, ap, sym, subst, ◌∙◌, arith}
 use Rattle.std.specs.Prelude.{Contains}
-use Rattle.std.proofs.lemmas.List.{take_more}
+use Rattle.std.proofs.lemmas.List.{get_or-map, length-map, map-append, take-map, take_more}
 use Rattle.dl_lit.specs.declared.literal.Literal.{Literal}
 use Rattle.dl_lit.specs.Literal.{complement}
 use Rattle.dl_net.specs.declared.both.Both.{Both}
-use Rattle.dl_net.specs.Pairs.{pairs_of}
+use Rattle.dl_net.specs.Pairs.{firsts_of, pairs_of}
 use Rattle.dl_net.specs.Named.{IsPaired}
 use Rattle.dl_net.proofs.NameLemmas.{both_new}
 use Rattle.dl_net.proofs.PairLemmas.{next_pair_new, pairs_paired, pairs_push}
@@ -15,15 +15,20 @@ loop-both-preserved c =
     let ps : List Both = c.args.pairs.now in
     let i : ℕ = c.loop-both.both-index in
     let p : Both = c.both-item.result in
+    let q : Literal = c.first.result.now in
     let old : List Literal = c.loop-both.names.literals in
-    let new : ¬ Contains old c.first.result.now =
+    let here : q ≡ get_or (firsts_of ps) i q =
+    c.first.ensures ∙ ap (λ (v : Both). v.first) c.both-item.is ∙ sym (get_or-map (λ (v : Both). v.first) ps i p q c.loop-both-test.true) in
+    let new : ¬ Contains old q =
     λ there.
-    next_pair_new ps i p c.requires c.loop-both-test.true c.both-item.is
-    (subst (λ (q : Literal). Contains (pairs_of (take i ps)) q) c.first.ensures
-    (subst (λ (ls : List Literal). Contains ls c.first.result.now) c.loop-both.invariant there)) in
+    next_pair_new (firsts_of ps) i q c.requires (omega (arith, length-map ps (λ (v : Both). v.first), c.loop-both-test.true)) here
+    (subst (λ (ls : List Literal). Contains (pairs_of ls) q) (sym (take-map (λ (v : Both). v.first) i ps))
+    (subst (λ (ls : List Literal). Contains ls q) c.loop-both.invariant there)) in
+    let more : firsts_of (take (i + 1) ps) ≡ firsts_of (take i ps) ++ q ∷ [] =
+    ap firsts_of (take_more ps i p c.loop-both-test.true ∙ ap (λ v. take i ps ++ v ∷ []) (sym c.both-item.is))
+    ∙ map-append (λ (v : Both). v.first) (take i ps) (p ∷ []) ∙ ap (λ r. firsts_of (take i ps) ++ r ∷ []) (sym c.first.ensures) in
     c.in_ok-number.ensures.named
-    ∙ both_new old c.first.result.now (subst (λ (ls : List Literal). IsPaired ls) (sym c.loop-both.invariant) (pairs_paired (take i ps))) new
-    ∙ (λ j. c.loop-both.invariant j ++ c.first.ensures j ∷ complement (c.first.ensures j) ∷ [])
-    ∙ sym (pairs_push (take i ps) p)
-    ∙ ap (λ v. pairs_of (take i ps ++ v ∷ [])) c.both-item.is
-    ∙ ap pairs_of (sym (take_more ps i p c.loop-both-test.true))
+    ∙ both_new old q (subst (λ (ls : List Literal). IsPaired ls) (sym c.loop-both.invariant) (pairs_paired (firsts_of (take i ps)))) new
+    ∙ ap (λ (ls : List Literal). ls ++ q ∷ complement q ∷ []) c.loop-both.invariant
+    ∙ sym (pairs_push (firsts_of (take i ps)) q)
+    ∙ ap pairs_of (sym more)

@@ -1,8 +1,8 @@
-use Rattle.std.proofs.Common.{◌≡◌, sym, ap, ◌∙◌, arith}
+use Rattle.std.proofs.Common.{ℕ, ◌≡◌, sym, ap, ◌∙◌, arith}
 use Rattle.dl_net.specs.Tables.{RowLists, spare_at}
 use Rattle.dl_net.specs.TablesView.{table_of}
 use Rattle.dl_net.specs.declared.rows.Rows.{Rows}
-use Rattle.dl_net.proofs.TableLemmas.{no_spare}
+use Rattle.dl_net.proofs.TableLemmas.{constant_at}
 use Rattle.dl_net.proofs.rows.RowTable.push.Goals as goal
 
 pub unreachable-requires : goal.unreachable-requires
@@ -10,5 +10,5 @@ unreachable-requires c =
     let full : spare_at c.args.self.now c.args.number ≡ 0 =
     ap (λ (t : RowLists). spare_at t c.args.number) (sym c.self.view_is)
     ∙ ap (λ (r : Rows). spare_at (table_of r) c.args.number) c.in-Packed.is
-    ∙ no_spare c.in-Packed.field-0 c.args.number in
+    ∙ constant_at {Y = ℕ} 0 c.in-Packed.field-0 c.args.number in
     omega (arith, full, c.requires)
