@@ -173,12 +173,6 @@ queue-hits (y ∷ ys) w =
     let rest = queue-hits ys (hit w y) in
     (first.0 ++ rest.0, rest.1 ∙ ap (λ (q : List ℕ). q ++ rest.0) first.1 ∙ append_assoc w.queue first.0 rest.0)
 
--- what stands in the queue stays at its place
-pub queue_stays : (ys : List ℕ) (w : CounterLists) (i : ℕ) → i < length w.queue → get_or (fold hit w ys).queue i 0 ≡ get_or w.queue i 0
-queue_stays ys w i lt =
-    let r = queue-hits ys w in
-    ap (λ (xs : List ℕ). get_or xs i 0) r.1 ∙ get_or_append_left w.queue r.0 0 i lt
-
 module _ (start : ℕ → ℕ) (given : ℕ → Bool) (free : (y : ℕ) → given y ≡ true → start y ≡ 0) where
   pub counts_hits : (ys hits : List ℕ) (w : CounterLists) → ((y : ℕ) → 0 < times y ys → y < length w.need) → Counts start given hits w
       → Counts start given (hits ++ ys) (fold hit w ys)

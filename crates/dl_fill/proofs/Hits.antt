@@ -1,7 +1,7 @@
 -- Steps of the loops that make hits.
-use Rattle.std.proofs.Common.{◌≡◌, ℕ, zero, suc, ◌+◌, ◌-◌, ◌==◌, ◌*◌, ◌/◌, ◌%◌, ◌<◌, cond, Bool, true, false, List, [], ◌∷◌, ◌++◌, length, take, get_or, set, inl, inr, ◌⊎◌, sym, subst, ap, refl, ◌∙◌, arith}
+use Rattle.std.proofs.Common.{◌≡◌, ℕ, zero, suc, ◌+◌, ◌*◌, ◌/◌, ◌%◌, ◌<◌, cond, Bool, List, [], ◌∷◌, ◌++◌, length, take, get_or, sym, subst, ap, refl, ◌∙◌, arith}
 use Rattle.std.specs.List.{fold, flat_map}
-use Rattle.std.proofs.lemmas.Bool.{cases_eq, eq-eqb, ne_eqb}
+use Rattle.std.proofs.lemmas.Bool.{eq-eqb, ne_eqb}
 use Rattle.dl_net.specs.Numbers.{NetLists, next}
 use Rattle.dl_fill.specs.declared.wire.Wire.{Wire}
 use Rattle.dl_fill.specs.Wires.{through, edges, edges_by}
@@ -12,7 +12,7 @@ use Rattle.std.proofs.lemmas.Grind.{flat_map-append}
 use Rattle.std.proofs.lemmas.List.{append-nil}
 use Rattle.dl_net.specs.Counting.{times}
 use Rattle.dl_fill.specs.Counters.{CounterLists, hit}
-use Rattle.dl_fill.proofs.Times.{times-append, times_cons_same, times_push_other, times-get_or}
+use Rattle.dl_fill.proofs.Times.{times-append, times-get_or}
 
 -- the j-th number that a wire makes of xs
 pub made_at : (s to : ℕ) (xs : List ℕ) (i : ℕ) → i < length xs → get_or (through s to xs) i 0 ≡ get_or xs i 0 * s + to
@@ -38,34 +38,6 @@ send_step s w to xs i lt =
 
 pub send_ends : (s : ℕ) (w : CounterLists) (to : ℕ) (xs : List ℕ) → fold hit w (take (length xs) (through s to xs)) ≡ fold hit w (through s to xs)
 send_ends s w to xs = ap (fold hit w) (take_all (length xs) (through s to xs) (omega (arith, length-made s to xs)))
-
--- members of the queue stay inside
-pub queued-hit : (w : CounterLists) (z y : ℕ) → 0 < times y (hit w z).queue → (y ≡ z) ⊎ (0 < times y w.queue)
-queued-hit w z y h = elim (cases_eq y z) [
-  | inl e ↦ inl e
-  | inr n ↦ inr (
-      let next : Bool → Bool → CounterLists =
-      λ a b. cond a w (record { need = set w.need z (get_or w.need z 0 - 1); queue = cond b (w.queue ++ z ∷ []) w.queue }) in
-      let kept : (a b : Bool) → 0 < times y (cond a w (record { need = set w.need z (get_or w.need z 0 - 1); queue = cond b (w.queue ++ z ∷ []) w.queue })).queue → 0 < times y w.queue =
-      λ a b. elim a as (λ a. 0 < times y (cond a w (record { need = set w.need z (get_or w.need z 0 - 1); queue = cond b (w.queue ++ z ∷ []) w.queue })).queue → 0 < times y w.queue) [
-        | true ↦ λ k. k
-        | false ↦ elim b as (λ b. 0 < times y (cond b (w.queue ++ z ∷ []) w.queue) → 0 < times y w.queue) [
-          | true ↦ λ k. omega (arith, k, times_push_other y z w.queue n)
-          | false ↦ λ k. k
-        ]
-      ] in
-      kept (get_or w.need z 0 == 0) (get_or w.need z 0 == 1) h)
-]
-
-pub queued-hits : (ys : List ℕ) (w : CounterLists) (n : ℕ) → ((y : ℕ) → 0 < times y ys → y < n) → ((y : ℕ) → 0 < times y w.queue → y < n)
-    → (y : ℕ) → 0 < times y (fold hit w ys).queue → y < n
-queued-hits [] w n inside queued y h = queued y h
-queued-hits (z ∷ zs) w n inside queued y h =
-    queued-hits zs (hit w z) n (λ x m. inside x (omega arith))
-    (λ x m. elim (queued-hit w z x m) [
-      | inl e ↦ inside x (omega (arith, times_cons_same x z zs e))
-      | inr k ↦ queued x k
-    ]) y h
 
 module _ (N : NetLists) (s x : ℕ) where
   -- a wire's numbers are among the edges

@@ -1,6 +1,5 @@
 pub mod Packed
 pub mod Times
-pub mod Trails
 pub mod Kept
 pub mod Engine
 pub mod Rows

@@ -112,12 +112,6 @@ module _ (inputs : ℕ → List ℕ) (gate : ℕ → ℕ → Gate) (s literals p
   pub all_begun : IsBegun inputs (touched_gate s literals members rules gate) (length w.need) w
   all_begun = touched_begun inputs gate s literals small members rules v w clean joined within fits (idle_waits v.need clean.need)
 
-  pub queue_inside : (x : ℕ) → 0 < times x w.queue → x < length w.need
-  queue_inside x h = elim (cases_eq (times x both) 0) [
-    | inl none ↦ absurd (omega (arith, h, joined.queue_out x none, ap (times x) clean.queue))
-    | inr some ↦ within x (omega (arith, some))
-  ]
-
 -- a node that waits for nothing goes on so
 hit_idle : (w : CounterLists) (z y : ℕ) → get_or w.need y 0 ≡ 0 → get_or (hit w z).need y 0 ≡ 0
 hit_idle w z y h =

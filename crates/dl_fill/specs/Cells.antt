@@ -1,5 +1,5 @@
 -- A flag and a number, in 32 bits.
-use Rattle.std.specs.Prelude.{Bool, ℕ, ◌-◌, ◌^◌, cond, not, nat_lt, List, map}
+use Rattle.std.specs.Prelude.{Bool, false, ℕ, ◌-◌, ◌^◌, ◌==◌, ◌&&◌, cond, not, nat_lt, List, map, slice_index, slice_index_or, slice_set}
 
 -- flags and numbers, by place
 pub record CellLists : Type 0 where
@@ -19,3 +19,13 @@ flags_of ws = map flag_of ws
 
 abbrev pub numbers_of : List ℕ → List ℕ
 numbers_of ws = map number_of ws
+
+-- whether a hit is the last that a place waits for: it has no flag, and comes to 0
+abbrev pub comes_down : CellLists → ℕ → Bool
+comes_down v place = not (slice_index_or v.flags place false) && (slice_index v.numbers place == 1)
+
+-- after a hit: a place without a flag counts down, and the last hit that it waits for sets its flag
+abbrev pub counted_down : CellLists → ℕ → CellLists
+counted_down v place =
+    cond (slice_index_or v.flags place false) v
+    (record { flags = slice_set v.flags place (slice_index v.numbers place == 1); numbers = slice_set v.numbers place (slice_index v.numbers place - 1) })

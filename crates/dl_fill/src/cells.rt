@@ -1,7 +1,7 @@
 //! A flag and a number at each place, in one word.
 
-ghost use Rattle.std.specs.Prelude.{◌≡◌, ◌<◌, ◌^◌, ℕ, Bool, false, [], length, replicate, slice_index, slice_index_or, slice_set, IfOk};
-ghost use Rattle.dl_fill.specs.Cells.{CellLists, flag_of, number_of};
+ghost use Rattle.std.specs.Prelude.{◌≡◌, ◌<◌, ◌-◌, ◌^◌, ◌==◌, true, false, [], length, replicate, slice_index_or, slice_set, IfOk};
+ghost use Rattle.dl_fill.specs.Cells.{flag_of, number_of, counted_down, comes_down};
 
 use dl_base::Memory;
 use std::alloc::Global;
@@ -67,53 +67,56 @@ impl Cells {
         requires { place < length self.now.flags }
         ensures { result ≡ slice_index_or self.now.flags place false }
     {
-        flag(self.words[place])
+        self.words[place] >= FLAG
     }
 
-    /// The number at a place.
-    pub(crate) fn number(&self, place: usize) -> usize
-        requires { place < length self.now.flags }
-        ensures number { result ≡ slice_index self.now.numbers place }
-        ensures few { result < 2 ^ 31 }
-    {
-        number(self.words[place]) as usize
-    }
-
-    /// The flag at a place is set or taken away.
-    pub(crate) fn mark(&mut self, place: usize, on: bool)
+    /// A place without a flag counts down, and has its flag set where it comes to 0: whether that was so now. A place at 0 stays.
+    #[inline(always)]
+    pub(crate) fn hit(&mut self, place: usize) -> bool
         requires { place < length self.old.flags }
-        ensures { self.new ≡ record { flags = slice_set self.old.flags place on; numbers = self.old.numbers } }
+        ensures fires { result ≡ comes_down self.old place }
+        ensures lower { self.new ≡ counted_down self.old place }
     {
-        self.words[place] = word(number(self.words[place]), on);
+        let word = self.words[place];
+        self.words[place] = lowered(word);
+        word == 1
     }
 
-    /// Another number at a place.
+    /// The flag, and the number 0, at a place.
+    pub(crate) fn fire(&mut self, place: usize)
+        requires { place < length self.old.flags }
+        ensures { self.new ≡ record { flags = slice_set self.old.flags place true; numbers = slice_set self.old.numbers place 0 } }
+    {
+        self.words[place] = FLAG;
+    }
+
+    /// No flag, and the number 0, at a place.
+    pub(crate) fn wipe(&mut self, place: usize)
+        requires { place < length self.old.flags }
+        ensures { self.new ≡ record { flags = slice_set self.old.flags place false; numbers = slice_set self.old.numbers place 0 } }
+    {
+        self.words[place] = 0;
+    }
+
+    /// Another number at a place without a flag.
     pub(crate) fn put(&mut self, place: usize, number: usize)
         requires place { place < length self.old.flags }
+        requires free { slice_index_or self.old.flags place false ≡ false }
         requires few { number < 2 ^ 31 }
         ensures { self.new ≡ record { flags = self.old.flags; numbers = slice_set self.old.numbers place number } }
     {
-        self.words[place] = word(number as u32, flag(self.words[place]));
+        self.words[place] = number as u32;
     }
 }
 
-fn flag(word: u32) -> bool
-    ensures { result ≡ flag_of word }
+/// A word after a hit.
+// without a branch, so that hits behind it need not wait for the word
+#[inline(always)]
+fn lowered(word: u32) -> u32
+    ensures high { flag_of word ≡ true → result ≡ word }
+    ensures flag { flag_of word ≡ false → flag_of result ≡ (word == 1) }
+    ensures number { flag_of word ≡ false → number_of result ≡ word - 1 }
 {
-    word >= FLAG
-}
-
-fn number(word: u32) -> u32
-    ensures number { result ≡ number_of word }
-    ensures few { result < 2 ^ 31 }
-{
-    if word >= FLAG { word - FLAG } else { word }
-}
-
-fn word(number: u32, on: bool) -> u32
-    requires { number < 2 ^ 31 }
-    ensures number { number_of result ≡ number }
-    ensures flag { flag_of result ≡ on }
-{
-    if on { number + FLAG } else { number }
+    let less = word - (word != 0 && word < FLAG) as u32;
+    if word == 1 { FLAG } else { less }
 }

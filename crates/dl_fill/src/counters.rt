@@ -2,38 +2,38 @@
 
 ghost use Rattle.std.specs.Prelude.{◌≡◌, ◌<◌, ◌≤◌, ◌+◌, ◌-◌, ◌^◌, ◌==◌, ◌∷◌, ◌++◌, [], length, slice_index, slice_set, IfOk, OnOk, OnErr, replicate, ◌↔◌, ◌⊎◌, ℕ, Bool, false, slice_index_or, IsTrue, if◌then◌else◌};
 ghost use Rattle.dl_net.specs.Counting.{times};
-ghost use Rattle.dl_fill.specs.Counters.{hit, waiting, needs, trail, IsTrail};
+ghost use Rattle.dl_fill.specs.Counters.{hit, waiting, IsQueue};
 
 use crate::cells::Cells;
 use dl_base::Memory;
 use std::alloc::Global;
 use std::marker::Model;
 
-/// No more nodes than a cell tells apart.
+/// No more nodes than numbers of 31 bits tell apart: a word of the queue has room for each.
 const MOST_NODES: usize = 0x8000_0000;
 
 /// One node of so many in the queue makes it crowded.
 const CROWD: usize = 16;
 
-/// How many hits each node still waits for, and the nodes that wait no more, in order. A node takes four bytes.
+/// How many hits each node still waits for, and the nodes that wait no more, in order. A node takes four bytes, and four more of a
+/// queue whose room is taken before, and touched only as far as nodes fire.
 #[derive(Drop)]
 pub struct Counters {
-    /// By node, whether it stands in the queue, and how many hits it still waits for; once it stands in the queue, the node that
-    /// stands there next.
+    /// By node, whether it stands in the queue, and how many hits it still waits for: none where it stands there.
     cells: Cells,
-    first: usize,
-    last: usize,
-    len: usize,
+    /// The nodes of the queue, in order. There is always room for one more.
+    queue: Vec<u32>,
 }
 
 impl Model for Counters {
-    ghost use Rattle.dl_fill.specs.Counters.{CounterLists, IsKept, needs, trail};
+    ghost use Rattle.dl_fill.specs.Counters.{CounterLists, IsKept};
+    ghost use Rattle.std.specs.Vec.{vec_capacity};
 
     ghost Value = { CounterLists };
 
-    ghost view = { λ w. record { need = needs w.cells.flags w.cells.numbers; queue = trail w.len w.first w.cells.numbers } };
+    ghost view = { λ w. record { need = w.cells.numbers; queue = w.queue.items } };
 
-    ghost invariant = { λ w. IsKept w.cells.flags w.cells.numbers w.first w.last w.len };
+    ghost invariant = { λ w. IsKept w.cells.flags w.cells.numbers w.queue.items (vec_capacity w.queue) };
 }
 
 impl Counters {
@@ -44,9 +44,7 @@ impl Counters {
     {
         Counters {
             cells: Cells::make(alloc),
-            first: 0,
-            last: 0,
-            len: 0,
+            queue: Vec::new(alloc),
         }
     }
 
@@ -60,13 +58,10 @@ impl Counters {
         if size > MOST_NODES {
             return Err(Memory);
         }
-        let cells = Cells::of_len(self.cells.alloc(), size)?;
-        *self = Counters {
-            cells,
-            first: 0,
-            last: 0,
-            len: 0,
-        };
+        let alloc = self.cells.alloc();
+        let queue = Vec::with_capacity(alloc, size + 1)?;
+        let cells = Cells::of_len(alloc, size)?;
+        *self = Counters { cells, queue };
         Ok(())
     }
 
@@ -83,29 +78,24 @@ impl Counters {
         ensures len { result ≡ length self.now.queue }
         ensures few { result ≤ length self.now.need }
     {
-        self.len
+        self.queue.len()
     }
 
-    /// The node that stands first in the queue, where some node does.
-    pub fn first(&self) -> usize
-        ensures { 0 < length self.now.queue → result ≡ slice_index self.now.queue 0 }
+    /// The node that stands at a place of the queue.
+    #[inline(always)]
+    pub fn node(&self, at: usize) -> usize
+        requires { at < length self.now.queue }
+        ensures node { result ≡ slice_index self.now.queue at }
+        ensures within { result < length self.now.need }
     {
-        self.first
-    }
-
-    /// The node that stands in the queue after this one, where some node does.
-    pub fn after(&self, node: usize) -> usize
-        requires { node < length self.now.need }
-        ensures { (i : ℕ) → i + 1 < length self.now.queue → slice_index self.now.queue i ≡ node → result ≡ slice_index self.now.queue (i + 1) }
-    {
-        self.cells.number(node)
+        self.queue[at] as usize
     }
 
     /// The nodes of the queue, in order. `Memory` where there is none for the list.
     pub fn nodes(&self, alloc: Global) -> Result<Vec<usize>, Memory>
         ensures { IfOk result (λ nodes. nodes.items ≡ self.now.queue) }
     {
-        listed(alloc, &self.cells, self.first, self.len)
+        listed(alloc, self.queue.as_slice())
     }
 
     /// Nothing stands in the queue any more. It costs no more than the queue is long.
@@ -113,13 +103,13 @@ impl Counters {
         ensures need { self.new.need ≡ self.old.need }
         ensures queue { self.new.queue ≡ [] }
     {
-        unlink(&mut self.cells, self.first, self.len);
-        self.len = 0;
+        wipe(&mut self.cells, self.queue.as_slice());
+        self.queue.clear();
     }
 
     /// Whether so many nodes have fired that clearing all nodes costs less than going along the queue.
     pub(crate) fn is_crowded(&self) -> bool {
-        self.len >= self.cells.len() / CROWD
+        self.queue.len() >= self.cells.len() / CROWD
     }
 
     /// No node waits, and none stands in the queue. It costs a word of memory for each node there is room for.
@@ -128,30 +118,23 @@ impl Counters {
         ensures queue { self.new.queue ≡ [] }
     {
         self.cells.clear();
-        self.first = 0;
-        self.last = 0;
-        self.len = 0;
+        self.queue.clear();
     }
 
-    /// One hit on a node.
+    /// One hit on a node. The node is put behind the queue in any case, and taken away again where it waits for more: a branch on what its
+    /// cell says would mostly be guessed wrong, and the wait for the cell could then not be shared with the hits behind it.
     // Inlined always, as what a run does at each node: so no hit costs a call.
     #[inline(always)]
     pub fn hit(&mut self, node: usize)
         requires { node < length self.old.need }
         ensures { self.new ≡ hit self.old node }
     {
-        if self.cells.flag(node) {
-            return;
+        let len = self.queue.len();
+        let fires = self.cells.hit(node);
+        self.queue.push_reserved(node as u32);
+        if !fires {
+            self.queue.truncate(len);
         }
-        let left = self.cells.number(node);
-        if left == 0 {
-            return;
-        }
-        if left == 1 {
-            self.append(node);
-            return;
-        }
-        self.cells.put(node, left - 1);
     }
 
     /// Whether the node stands in the queue.
@@ -185,69 +168,29 @@ impl Counters {
         requires room { length self.old.queue + waiting self.old.need < length self.old.need }
         ensures { self.new ≡ record { need = self.old.need; queue = self.old.queue ++ node ∷ [] } }
     {
-        self.append(node);
-    }
-
-    /// The node goes last into the queue, and waits no more.
-    #[inline(always)]
-    fn append(&mut self, node: usize)
-        requires node { node < length self.old.need }
-        requires fresh { times node self.old.queue ≡ 0 }
-        requires room { length self.old.queue + waiting (slice_set self.old.need node 0) < length self.old.need }
-        ensures { self.new ≡ record { need = slice_set self.old.need node 0; queue = self.old.queue ++ node ∷ [] } }
-    {
-        self.first = link(&mut self.cells, self.first, self.last, self.len, node);
-        self.last = node;
-        self.len += 1;
-        self.cells.mark(node, true);
+        self.queue.push_reserved(node as u32);
+        self.cells.fire(node);
     }
 }
 
-/// The last of so many nodes tells the node after it; the answer is the first of all.
-fn link(cells: &mut Cells, first: usize, last: usize, len: usize, node: usize) -> usize
-    requires last { (len ≡ 0) ⊎ (last < length cells.old.flags) }
-    requires node { node < 2 ^ 31 }
-    ensures flags { cells.new.flags ≡ cells.old.flags }
-    ensures numbers { cells.new.numbers ≡ (if len == 0 then cells.old.numbers else slice_set cells.old.numbers last node) }
-    ensures first { result ≡ (if len == 0 then node else first) }
+/// The nodes of a queue, in order.
+fn listed(alloc: Global, queue: &[u32]) -> Result<Vec<usize>, Memory>
+    ensures { IfOk result (λ nodes. nodes.items ≡ queue.now) }
 {
-    if len == 0 {
-        return node;
-    }
-    cells.put(last, node);
-    first
-}
-
-/// The nodes of a trail, in order.
-fn listed(alloc: Global, cells: &Cells, first: usize, len: usize) -> Result<Vec<usize>, Memory>
-    requires { (y : ℕ) → 0 < times y (trail len first cells.now.numbers) → y < length cells.now.flags }
-    ensures { IfOk result (λ nodes. nodes.items ≡ trail len first cells.now.numbers) }
-{
-    let mut nodes = Vec::new(alloc);
-    let mut node = first;
-    let mut left = len;
-    while left > 0 {
-        nodes.push(node)?;
-        node = cells.number(node);
-        left -= 1;
+    let mut nodes = Vec::with_capacity(alloc, queue.len())?;
+    for node in queue {
+        nodes.push(*node as usize)?;
     }
     Ok(nodes)
 }
 
-/// The nodes of a trail have fired no more, and their numbers tell nothing.
-fn unlink(cells: &mut Cells, first: usize, len: usize)
-    requires { IsTrail cells.old.flags cells.old.numbers first len }
-    ensures needs { needs cells.new.flags cells.new.numbers ≡ needs cells.old.flags cells.old.numbers }
-    ensures trail { IsTrail cells.new.flags cells.new.numbers first 0 }
-    ensures size { length cells.new.flags ≡ length cells.old.flags }
+/// The nodes of a queue have fired no more.
+fn wipe(cells: &mut Cells, queue: &[u32])
+    requires { IsQueue cells.old.flags cells.old.numbers queue.now }
+    ensures need { cells.new.numbers ≡ cells.old.numbers }
+    ensures fired { IsQueue cells.new.flags cells.new.numbers [] }
 {
-    let mut node = first;
-    let mut left = len;
-    while left > 0 {
-        let next = cells.number(node);
-        cells.mark(node, false);
-        cells.put(node, 0);
-        node = next;
-        left -= 1;
+    for node in queue {
+        cells.wipe(*node as usize);
     }
 }

@@ -89,15 +89,13 @@ fn fire_kind(
 pub fn run(net: &Graph<'_>, width: usize, wires: &[Wire], counters: &mut Counters)
     requires width { 0 < width }
     requires inside { (x y : ℕ) → x < length counters.old.need → 0 < times y (edges net.now width wires.now x) → y < length counters.old.need }
-    requires queued { (x : ℕ) → 0 < times x counters.old.queue → x < length counters.old.need }
     ensures { IsRunOut (edges net.now width wires.now) counters.old counters.new }
 {
     let spans = Spans::from(wires);
     let mut head = 0;
-    let mut node = counters.first();
     while head < counters.len() {
+        let node = counters.node(head);
         fire_kind(net, width, wires, &spans, node, counters);
         head += 1;
-        node = counters.after(node);
     }
 }

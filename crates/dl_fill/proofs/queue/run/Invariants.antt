@@ -1,6 +1,4 @@
-use Rattle.std.proofs.Common.{◌≡◌, ℕ, ◌-◌, ◌<◌, length}
-use Rattle.std.specs.Prelude.{slice_index}
-use Rattle.dl_net.specs.Counting.{times}
+use Rattle.std.proofs.Common.{◌≡◌, ◌-◌, length}
 use Rattle.dl_fill.specs.Wires.{edges}
 use Rattle.dl_fill.specs.Runs.{Fires}
 use Rattle.dl_fill.proofs.queue.run.Given as goal
@@ -9,8 +7,6 @@ abbrev pub invariant-loop-head : goal.invariant-loop-head
 invariant-loop-head l = record {
   fires : Fires (edges l.net l.width l.wires) l.fn.counters l.head l.counters;
   size : length l.counters.need ≡ length l.fn.counters.need;
-  queued : (x : ℕ) → 0 < times x l.counters.queue → x < length l.counters.need;
-  here : l.head < length l.counters.queue → l.node ≡ slice_index l.counters.queue l.head;
 }
 
 abbrev pub decreases-loop-head : goal.decreases-loop-head

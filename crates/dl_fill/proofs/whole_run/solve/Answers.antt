@@ -5,7 +5,7 @@ use Rattle.dl_fill.proofs.Inside.{edges_inside}
 use Rattle.dl_fill.proofs.Begun.{fires_size}
 use Rattle.dl_net.specs.Counting.{times}
 use Rattle.dl_fill.proofs.Starting.{length-places, lits_apart}
-use Rattle.dl_fill.proofs.Solving.{region_few, idle_waits, area_fits, all_begun, queue_inside}
+use Rattle.dl_fill.proofs.Solving.{region_few, idle_waits, area_fits, all_begun}
 use Rattle.dl_fill.proofs.whole_run.solve.Goals as goal
 
 pub begin_places-requires-clause-free : goal.begin_places-requires-clause-free
@@ -55,17 +55,6 @@ run-requires-clause-inside g c = λ x y lt m.
     let r = edges_inside c.args.net.now c.names-names.ensures.numbered c.args.width c.args.rules.now.bound c.requires.names c.requires.rules
     c.args.wires.now c.requires.kinds x y (subst (λ (n : ℕ). x < n) size lt) m in
     subst (λ (n : ℕ). y < n) (sym size) r
-
-pub run-requires-clause-queued : goal.run-requires-clause-queued
-run-requires-clause-queued g c =
-    queue_inside (inputs c.args.net.now (is_inside c.args.region.now.members) c.args.width c.args.wires.now)
-    (g.G.Gates.tells c.args.gates.now c.args.net.now (before_of c.args.marks.now c.args.region.now)) c.args.width c.args.literals c.args.rules.now.bound c.requires.width
-    c.args.region.now.members c.touch.new.rules.members
-    (λ k d lt. omega (arith, c.len-len.ensures.region.below k d lt, c.requires.bound, c.requires.names))
-    (λ k d lt. omega (arith, c.len-touched.ensures.region.below k d lt, c.touch.ensures.bound))
-    (omega (arith, region_few c.args.region.now c.len-len.ensures.region, c.requires.bound, c.requires.names))
-    (omega (arith, region_few c.touch.new.rules c.len-touched.ensures.region, c.touch.ensures.bound))
-    c.args.counters.now c.begin_places.new.counters c.begin_places-2.new.counters c.requires.size c.requires.clean c.begin_places.ensures c.begin_places-2.ensures
 
 pub returns-clause-run : goal.returns-clause-run
 returns-clause-run g c = record {

@@ -1,60 +1,18 @@
-use Rattle.std.proofs.Common.{◌≡◌, ◌<◌, ◌-◌, false, get_or, sym, ap, subst, arith, length, ◌∙◌}
+use Rattle.std.proofs.Common.{◌<◌, ℕ, List, [], ◌∷◌, ◌++◌, true, length, set, sym, subst, ◌∙◌}
 use Rattle.dl_fill.specs.Cells.{CellLists}
-use Rattle.dl_fill.specs.Counters.{IsKept}
-use Rattle.dl_fill.proofs.Kept.{seen, seen_size, seen_len, seen_few, need_of_fired, need_of_slot, hit_idle, hit_last, hit_more, waiting_less, waiting_still, slot_kept, slot_seen}
+use Rattle.dl_fill.specs.Counters.{CounterLists, IsKept}
+use Rattle.dl_fill.proofs.Kept.{last_of, counted_last, last_kept}
 use Rattle.dl_fill.proofs.counters.Counters.hit.Goals as goal
 
-pub flag-requires : goal.flag-requires
-flag-requires c = omega (arith, c.requires, seen_size c.self.inside.cells.flags c.self.inside.cells.numbers c.self.inside.first c.self.inside.last c.self.inside.len c.self.invariant c.args.self.now c.self.view_is)
-
-pub number-left-requires : goal.number-left-requires
-number-left-requires c = omega (arith, c.requires, seen_size c.self.inside.cells.flags c.self.inside.cells.numbers c.self.inside.first c.self.inside.last c.self.inside.len c.self.invariant c.args.self.now c.self.view_is)
-
-pub returns-then-flag : goal.returns-then-flag
-returns-then-flag c =
-    sym (hit_idle c.args.self.now c.args.node (need_of_fired c.self.inside.cells.flags c.self.inside.cells.numbers c.self.inside.first c.self.inside.last c.self.inside.len c.self.invariant c.args.self.now c.self.view_is c.args.node (sym c.flag.ensures ∙ c.if-flag.true)))
-
-pub returns-then-left-eq0 : goal.returns-then-left-eq0
-returns-then-left-eq0 c =
-    let off : get_or c.self.inside.cells.flags c.args.node false ≡ false = sym c.flag.ensures ∙ c.if-flag.false in
-    let need : get_or c.args.self.now.need c.args.node 0 ≡ c.number-left.result = need_of_slot c.self.inside.cells.flags c.self.inside.cells.numbers c.self.inside.first c.self.inside.last c.self.inside.len c.self.invariant c.args.self.now c.self.view_is c.args.node off ∙ sym c.number-left.ensures.number in
-    sym (hit_idle c.args.self.now c.args.node (need ∙ c.if-left-eq0.true))
-
-pub append-requires-clause-room : goal.append-requires-clause-room
-append-requires-clause-room c =
-    let off : get_or c.self.inside.cells.flags c.args.node false ≡ false = sym c.flag.ensures ∙ c.if-flag.false in
-    let need : get_or c.args.self.now.need c.args.node 0 ≡ c.number-left.result = need_of_slot c.self.inside.cells.flags c.self.inside.cells.numbers c.self.inside.first c.self.inside.last c.self.inside.len c.self.invariant c.args.self.now c.self.view_is c.args.node off ∙ sym c.number-left.ensures.number in
-    omega (arith, waiting_less c.args.self.now.need c.args.node c.requires (omega (arith, need, c.if-left-eq1.true)), seen_few c.self.inside.cells.flags c.self.inside.cells.numbers c.self.inside.first c.self.inside.last c.self.inside.len c.self.invariant c.args.self.now c.self.view_is)
-
-pub returns-then-left-eq1 : goal.returns-then-left-eq1
-returns-then-left-eq1 c =
-    let off : get_or c.self.inside.cells.flags c.args.node false ≡ false = sym c.flag.ensures ∙ c.if-flag.false in
-    let need : get_or c.args.self.now.need c.args.node 0 ≡ c.number-left.result = need_of_slot c.self.inside.cells.flags c.self.inside.cells.numbers c.self.inside.first c.self.inside.last c.self.inside.len c.self.invariant c.args.self.now c.self.view_is c.args.node off ∙ sym c.number-left.ensures.number in
-    c.append.ensures ∙ sym (hit_last c.args.self.now c.args.node (need ∙ c.if-left-eq1.true))
-
-pub put-requires-clause-place : goal.put-requires-clause-place
-put-requires-clause-place c = omega (arith, c.requires, seen_size c.self.inside.cells.flags c.self.inside.cells.numbers c.self.inside.first c.self.inside.last c.self.inside.len c.self.invariant c.args.self.now c.self.view_is)
-
-pub invariant_of-self : goal.invariant_of-self
-invariant_of-self c =
-    let lt : c.args.node < length c.self.inside.cells.flags = omega (arith, c.requires, seen_size c.self.inside.cells.flags c.self.inside.cells.numbers c.self.inside.first c.self.inside.last c.self.inside.len c.self.invariant c.args.self.now c.self.view_is) in
-    let off : get_or c.self.inside.cells.flags c.args.node false ≡ false = sym c.flag.ensures ∙ c.if-flag.false in
-    let need : get_or c.args.self.now.need c.args.node 0 ≡ c.number-left.result = need_of_slot c.self.inside.cells.flags c.self.inside.cells.numbers c.self.inside.first c.self.inside.last c.self.inside.len c.self.invariant c.args.self.now c.self.view_is c.args.node off ∙ sym c.number-left.ensures.number in
-    subst (λ (v : CellLists). IsKept v.flags v.numbers c.self.inside.first c.self.inside.last c.self.inside.len) (sym c.put.ensures)
-    (slot_kept c.self.inside.cells.flags c.self.inside.cells.numbers c.self.inside.first c.self.inside.last c.self.inside.len c.self.invariant c.args.self.now c.self.view_is c.args.node (c.number-left.result - 1) lt off
-    (omega (
-      arith,
-      waiting_still c.args.self.now.need c.args.node (c.number-left.result - 1) c.requires (omega (arith, need, c.if-left-eq0.false)),
-      seen_few c.self.inside.cells.flags c.self.inside.cells.numbers c.self.inside.first c.self.inside.last c.self.inside.len c.self.invariant c.args.self.now c.self.view_is,
-      seen_len c.self.inside.cells.flags c.self.inside.cells.numbers c.self.inside.first c.self.inside.last c.self.inside.len c.self.invariant c.args.self.now c.self.view_is,
-      seen_size c.self.inside.cells.flags c.self.inside.cells.numbers c.self.inside.first c.self.inside.last c.self.inside.len c.self.invariant c.args.self.now c.self.view_is,
-    )))
-
-pub returns : goal.returns
-returns c =
-    let lt : c.args.node < length c.self.inside.cells.flags = omega (arith, c.requires, seen_size c.self.inside.cells.flags c.self.inside.cells.numbers c.self.inside.first c.self.inside.last c.self.inside.len c.self.invariant c.args.self.now c.self.view_is) in
-    let off : get_or c.self.inside.cells.flags c.args.node false ≡ false = sym c.flag.ensures ∙ c.if-flag.false in
-    let need : get_or c.args.self.now.need c.args.node 0 ≡ c.number-left.result = need_of_slot c.self.inside.cells.flags c.self.inside.cells.numbers c.self.inside.first c.self.inside.last c.self.inside.len c.self.invariant c.args.self.now c.self.view_is c.args.node off ∙ sym c.number-left.ensures.number in
-    ap (λ (v : CellLists). seen v.flags v.numbers c.self.inside.first c.self.inside.len) c.put.ensures
-    ∙ slot_seen c.self.inside.cells.flags c.self.inside.cells.numbers c.self.inside.first c.self.inside.last c.self.inside.len c.self.invariant c.args.self.now c.self.view_is c.args.node (c.number-left.result - 1) lt off
-    ∙ sym (hit_more c.args.self.now c.args.node c.number-left.result need (omega (arith, c.if-left-eq0.false, c.if-left-eq1.false)))
+pub invariant_of-self-else-not-fires : goal.invariant_of-self-else-not-fires
+invariant_of-self-else-not-fires c =
+    let fired = c.self.inside.cells.flags in
+    let need = c.self.inside.cells.numbers in
+    let queue = c.self.inside.queue.items in
+    let lt = subst (λ (v : CounterLists). c.args.node < length v.need) (sym c.self.view_is) c.requires in
+    let last = last_of fired need queue c.self.inside.queue.cap c.self.invariant c.args.node lt (sym c.hit-fires.ensures.fires ∙ c.if-not-fires.false) in
+    let lower = c.hit-fires.ensures.lower ∙ counted_last fired need queue c.self.inside.queue.cap c.self.invariant c.args.node lt last in
+    subst (λ (v : CellLists). IsKept v.flags v.numbers c.push_reserved.new.self.items c.push_reserved.new.self.cap) (sym lower)
+    (subst (λ (xs : List ℕ). IsKept (set fired c.args.node true) (set need c.args.node 0) xs c.push_reserved.new.self.cap) (sym c.push_reserved.ensures.items)
+    (subst (λ (n : ℕ). IsKept (set fired c.args.node true) (set need c.args.node 0) (queue ++ c.args.node ∷ []) n) (sym c.push_reserved.ensures.capacity)
+    (last_kept fired need queue c.self.inside.queue.cap c.self.invariant c.args.node lt last)))
