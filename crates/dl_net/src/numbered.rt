@@ -19,7 +19,7 @@ use crate::table::Table;
 use dl_base::Memory;
 use dl_lit::{Literal, Name, NameSet, name_set};
 use dl_theory::{
-    EditRefusal, EditStop, LIMIT, Loading, Pair, PairsStop, Rule, RulePairs, holds_label,
+    Body, EditRefusal, EditStop, LIMIT, Loading, Pair, PairsStop, Rule, RulePairs, holds_label,
     insert_label,
 };
 use std::alloc::Global;
@@ -141,8 +141,19 @@ impl Loading for NumberedTheory {
     }
 
     #[inline(always)]
-    fn add_rule(&mut self, rule: Rule) -> Result<(), EditStop> {
-        self.put_rule(&rule)
+    fn add_rule(&mut self, rule: Rule) -> Result<Option<Body>, EditStop> {
+        match self.put_rule(&rule) {
+            Ok(()) => {
+                let Rule {
+                    label: _,
+                    kind: _,
+                    body,
+                    head: _,
+                } = rule;
+                Ok(Some(body))
+            }
+            Err(stop) => Err(stop),
+        }
     }
 
     fn add_pairs(&mut self, pairs: &[Pair]) -> Result<(), PairsStop> {

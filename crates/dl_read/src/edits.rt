@@ -10,7 +10,7 @@ use crate::read::{outside, read_statement};
 use crate::scanner::Scanner;
 use crate::statement::{LineStop, Statement, Stop};
 use crate::words::{begins_blank, cut_word};
-use dl_theory::{Edit, Rule};
+use dl_theory::{Body, Edit, Rule};
 use std::alloc::Global;
 
 /// The edit that adds what a statement says.
@@ -53,7 +53,11 @@ fn read_added(alloc: Global, rest: &[u8]) -> Result<Edit, LineStop>
 fn dropped_answer(alloc: Global, rest: &[u8]) -> Result<Edit, LineStop>
     ensures { Answers (has_variables rest.now) (dropped_at (tokens rest.now)) result }
 {
-    let mut scanner = Scanner { alloc, rest };
+    let mut scanner = Scanner {
+        alloc,
+        rest,
+        spare: Body::make(alloc),
+    };
     match scanner.dropped() {
         Ok(edit) => Ok(edit),
         Err(Stop::Memory) => Err(LineStop::Memory),

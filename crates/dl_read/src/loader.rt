@@ -9,7 +9,7 @@ ghost use Rattle.dl_read.specs.declared.statement.Statement.{Statement};
 use crate::file::ReadStop;
 use crate::statement::Statement;
 use dl_lit::{Literal, Memory, Name};
-use dl_theory::{EditRefusal, EditStop, Loading, Pair, PairsStop, Rule};
+use dl_theory::{Body, EditRefusal, EditStop, Loading, Pair, PairsStop, Rule};
 use itoa::write_digits;
 use std::alloc::Global;
 
@@ -41,6 +41,8 @@ pub struct Loader<T> {
     pub pairs: Vec<Pair>,
     /// The numbers of their lines.
     pub lines: Vec<u64>,
+    /// A body whose room serves the next rule's.
+    pub spare: Body,
 }
 
 impl<T: Loading> Loader<T> {
@@ -57,6 +59,7 @@ impl<T: Loading> Loader<T> {
             refused: None,
             pairs: Vec::new(alloc),
             lines: Vec::new(alloc),
+            spare: Body::make(alloc),
         }
     }
 
@@ -96,8 +99,14 @@ impl<T: Loading> Loader<T> {
         if self.has_refused() {
             return Ok(());
         }
-        let answer = self.target.add_rule(rule);
-        note(&mut self.refused, answer, line)
+        match self.target.add_rule(rule) {
+            Ok(None) => Ok(()),
+            Ok(Some(body)) => {
+                self.spare = body;
+                Ok(())
+            }
+            Err(stop) => note(&mut self.refused, Err(stop), line),
+        }
     }
 
     /// Keeps the pair of a line until all lines are read.
@@ -153,6 +162,7 @@ impl<T: Loading> Loader<T> {
             refused,
             pairs,
             lines,
+            spare: _,
         } = self;
         match refused {
             Some(refused) => Err(refused.stop()),

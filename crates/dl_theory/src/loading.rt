@@ -5,6 +5,7 @@ ghost use Rattle.dl_theory.specs.Lists.{TheoryLists};
 ghost use Rattle.dl_theory.specs.Edits.{after_edit, after_edits, additions, AreAccepted, IsAccepted, IsStopped, IsPairsStop};
 
 use crate::edit::{Edit, EditStop, PairsStop};
+use crate::lists::Body;
 use crate::rule::{Pair, Rule};
 use crate::theory::Theory;
 use dl_lit::Literal;
@@ -21,8 +22,8 @@ pub trait Loading: Drop {
         ensures stopped { IfErr result (IsStopped (lists self.old) (Edit.AddFact fact)) }
         ensures kept { OnErr result (lists self.new ≡ lists self.old) };
 
-    /// Adds a rule, or says why not.
-    fn add_rule(&mut self, rule: Rule) -> Result<(), EditStop>
+    /// Adds a rule, or says why not. Gives the rule's body back where it was not kept, since its room can serve the next rule.
+    fn add_rule(&mut self, rule: Rule) -> Result<Option<Body>, EditStop>
         ensures accepted { OnOk result (IsAccepted (lists self.old) (Edit.AddRule rule)) }
         ensures changed { OnOk result (lists self.new ≡ after_edit (lists self.old) (Edit.AddRule rule)) }
         ensures stopped { IfErr result (IsStopped (lists self.old) (Edit.AddRule rule)) }
@@ -44,8 +45,9 @@ impl Loading for Theory {
     }
 
     #[inline(always)]
-    fn add_rule(&mut self, rule: Rule) -> Result<(), EditStop> {
-        Theory::add_rule(self, rule)
+    fn add_rule(&mut self, rule: Rule) -> Result<Option<Body>, EditStop> {
+        Theory::add_rule(self, rule)?;
+        Ok(None)
     }
 
     fn add_pairs(&mut self, pairs: &[Pair]) -> Result<(), PairsStop> {

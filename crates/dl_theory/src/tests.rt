@@ -379,6 +379,9 @@ fn lists_keep_what_is_pushed(rt: HostRuntime) {
     assert!(rt; tags.push(tagged).is_ok());
     let mut body = Body::make(alloc);
     assert!(rt; body.reserve(5).is_ok() && body.len() == 0);
+    assert!(rt; body.push(literal(&rt, alloc, "p")).is_ok());
+    body.clear();
+    assert_eq!(rt; body.len(), 0);
     assert!(rt; body.push(literal(&rt, alloc, "q")).is_ok());
     assert!(rt; path.copy().is_ok() && tags.copy().is_ok() && body.copy().is_ok());
     assert!(rt; path.len() == 1 && tags.get(0).is_some() && body.get(1).is_none());

@@ -20,7 +20,7 @@ returns-in_err-load-in-Ok-clause-stopped g c =
 pub returns-in-Err-clause-stopped : goal.returns-in-Err-clause-stopped
 returns-in-Err-clause-stopped g c =
     let f = first_is c.cut_line.result.1 (λ m. m.now) _ (lines_of c.lines.rest.now) c.cut_line.result.0.now c.cut_line.ensures in
-    let stops = c.line_stop.ensures c.cut_line.result.0.now (rw c.in-Err.is at c.read_statement.ensures) in
+    let stops = c.line_stop.ensures c.cut_line.result.0.now (rw c.in-Err.is at c.statement_in.ensures) in
     reached_stop c.args.bytes.now (lines_of c.lines.rest.now) f.0 c.lines.number (held g.T.Loading.lists c.lines.loader) c.cut_line.result.0.now _ c.lines.invariant.reached f.1 stops
 
 pub finish-requires : goal.finish-requires
@@ -31,7 +31,7 @@ finish-requires g c =
 pub returns-in-None-clause-loaded : goal.returns-in-None-clause-loaded
 returns-in-None-clause-loaded g c =
     let h = c.lines.invariant.reached in
-    let said = rw c.in-Ok.is at c.read_statement.ensures in
+    let said = rw c.in-Ok.is at c.statement_in.ensures in
     let e = rw c.in-None.is at c.cut_line.ensures in
     let ss : List Statement = h.statements ++ c.in-Ok.statement ∷ [] in
     let read : HasRead (held g.T.Loading.lists c.load.new.self) ss = c.in_ok-load-in-Ok.ensures h.statements (number_of _ _ c.lines.number (held g.T.Loading.lists c.lines.loader) h) h.read in
@@ -41,7 +41,7 @@ returns-in-None-clause-loaded g c =
 pub returns-in-None-clause-stopped : goal.returns-in-None-clause-stopped
 returns-in-None-clause-stopped g c =
     let h = c.lines.invariant.reached in
-    let said = rw c.in-Ok.is at c.read_statement.ensures in
+    let said = rw c.in-Ok.is at c.statement_in.ensures in
     let e = rw c.in-None.is at c.cut_line.ensures in
     let ss : List Statement = h.statements ++ c.in-Ok.statement ∷ [] in
     let read : HasRead (held g.T.Loading.lists c.load.new.self) ss = c.in_ok-load-in-Ok.ensures h.statements (number_of _ _ c.lines.number (held g.T.Loading.lists c.lines.loader) h) h.read in
@@ -51,7 +51,7 @@ returns-in-None-clause-stopped g c =
 pub lines-preserved : goal.lines-preserved
 lines-preserved g c =
     let h = c.lines.invariant.reached in
-    let said = rw c.in-Ok.is at c.read_statement.ensures in
+    let said = rw c.in-Ok.is at c.statement_in.ensures in
     let e = rw c.in-Some.is at c.cut_line.ensures in
     record {
       reached = reached_more _ _ _ c.lines.number (held g.T.Loading.lists c.lines.loader) (held g.T.Loading.lists c.load.new.self) _ c.in-Ok.statement h e.0 said.1

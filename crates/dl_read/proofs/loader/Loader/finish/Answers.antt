@@ -16,14 +16,14 @@ returns-in-Some-clause-stopped g c = λ ss h.
     subst (λ (x : ReadStop). IsLoadStop (in_loading_order ss) x) (sym c.stop.ensures)
     (finish_refused (held g.T.Loading.lists c.args.self) ss _ c.in-Some.is h)
 
-pub returns-in-None-clause-loaded : goal.returns-in-None-clause-loaded
-returns-in-None-clause-loaded g c =
+pub returns-clause-loaded : goal.returns-clause-loaded
+returns-clause-loaded g c =
     let lists = g.T.Loading.lists in
     IfOk-weaker c.add_waiting.result (λ t. AddsPairs (lists c.args.self.target) c.as_slice.result.now (lists t)) _
     (λ t a ss h. finish_loaded (held lists c.args.self) ss (lists t) c.in-None.is h (rw (sym c.as_slice.ensures.value) a)) c.add_waiting.ensures.loaded
 
-pub returns-in-None-clause-stopped : goal.returns-in-None-clause-stopped
-returns-in-None-clause-stopped g c =
+pub returns-clause-stopped : goal.returns-clause-stopped
+returns-clause-stopped g c =
     MatchResult-weaker c.add_waiting.result c.add_waiting.ensures.stopped (λ t u. tt)
     (λ x w ss h. finish_stopped (held g.T.Loading.lists c.args.self) ss x c.in-None.is h
     (rw (sym c.as_slice.ensures.value, sym c.as_slice-in-None.ensures.value) w))
