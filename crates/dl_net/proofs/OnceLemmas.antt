@@ -1,14 +1,18 @@
 -- The members of a list, each once.
-use Rattle.std.proofs.Common.{◌≡◌, ℕ, ◌+◌, ◌≤◌, Bool, true, false, List, [], ◌∷◌, ◌++◌, length, refl, sym, ap, ◌∙◌, arith, cond, inl, inr, length-append}
+use Rattle.std.proofs.Common.{◌≡◌, ℕ, ◌+◌, ◌<◌, ◌≤◌, ◌≢◌, Bool, true, false, List, [], ◌∷◌, ◌++◌, length, refl, sym, ap, ◌∙◌, arith, cond, inl, inr, length-append, get_or, take}
 use Rattle.std.specs.Prelude.{filter, not, ◌==◌, ◌||◌, ◌&&◌, All}
 use Rattle.std.specs.List.{list_any}
 use Rattle.std.proofs.lemmas.Bool.{cases_eq}
-use Rattle.std.proofs.lemmas.List.Elements.{filter-append, All-cons, All-head, All-tail, All-filter}
-use Rattle.std.proofs.lemmas.List.{append-nil}
+use Rattle.std.proofs.lemmas.List.Elements.{filter-append, All-cons, All-head, All-tail, All-filter, All-get_or, filter_passes}
+use Rattle.std.proofs.lemmas.List.{append-nil, get_or-take, get_or_default, length-take}
+use Rattle.std.proofs.lemmas.List.Kept.{AllPairs-filter}
+use Rattle.dl_base.specs.Paths.{IsDistinct}
+use Rattle.dl_base.proofs.Distinct.{distinct_nil, distinct_cons}
 use Rattle.dl_base.proofs.Filters.{length-filter_le}
 use Rattle.dl_net.specs.Counting.{each_once}
 use Rattle.dl_net.specs.Lines.{is_in}
-use Rattle.dl_net.proofs.NumberLists.{alike, differ, and_true, is_in-filter}
+use Rattle.dl_net.proofs.NumberLists.{alike, differ, and_true, is_in-filter, false_from}
+use Rattle.dl_net.proofs.OccursLemmas.{stands}
 
 -- another member is new, or was there
 push_step : (b : ℕ) (e v : Bool) → cond (not e) (cond v [] (b ∷ [])) [] ≡ cond (e || v) [] (b ∷ [])
@@ -103,3 +107,26 @@ All-each_once P [] h = h
 All-each_once P (x ∷ xs) h =
     All-cons P x (filter (λ y. not (y == x)) (each_once xs)) (All-head P x xs h)
     (All-filter (λ y. not (y == x)) P (each_once xs) (All-each_once P xs (All-tail P x xs h)))
+
+-- none of them stands twice
+pub distinct_once : (xs : List ℕ) → IsDistinct (each_once xs)
+distinct_once [] = distinct_nil
+distinct_once (x ∷ xs) =
+    let p : ℕ → Bool = λ y. not (y == x) in
+    let rest : List ℕ = each_once xs in
+    distinct_cons x (filter p rest)
+    (λ m.
+    let passes : p (get_or (filter p rest) m.0 x) ≡ true = All-get_or (λ y. p y ≡ true) (filter p rest) m.0 x m.1 (filter_passes p rest) in
+    let here : p x ≡ true = ap p (sym m.2) ∙ passes in
+    let same : p x ≡ false = ap not (alike x x refl) in
+    cc)
+    (AllPairs-filter (λ a b. a ≢ b) p rest (distinct_once xs))
+
+-- what stands at a place of a list without repeats stands nowhere before it
+pub once_new : (xs : List ℕ) (i : ℕ) → IsDistinct xs → i < length xs → is_in (take i xs) (get_or xs i 0) ≡ false
+once_new xs i h lt =
+    let b : ℕ = get_or xs i 0 in
+    false_from (is_in (take i xs) b) (stands (take i xs) b)
+    (λ m.
+    let before : m.0 < i = omega (arith, m.1, length-take i xs) in
+    h m.0 i 0 before lt (get_or_default xs m.0 0 b (omega (arith, before, lt)) ∙ sym (get_or-take i xs m.0 b before) ∙ m.2))

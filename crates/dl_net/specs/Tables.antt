@@ -1,5 +1,5 @@
 -- A table of lists of numbers.
-use Rattle.std.specs.Prelude.{◌≡◌, ℕ, ◌≤◌, ◌-◌, ◌+◌, Bool, ◌==◌, not, List, [], length, get_or, filter}
+use Rattle.std.specs.Prelude.{◌≡◌, ℕ, ◌≤◌, ◌==◌, not, List, [], length, get_or, filter}
 
 -- the lists, and how many numbers more each of them takes without memory
 pub record RowLists : Type 0 where
@@ -25,7 +25,3 @@ pub record KeepsLists (old new : RowLists) : Type 0 where
 -- the numbers without x
 abbrev pub drop_item : ℕ → List ℕ → List ℕ
 drop_item x xs = filter (λ y. not (y == x)) xs
-
--- whether x is the last of the numbers
-abbrev pub ends_with : List ℕ → ℕ → Bool
-ends_with xs x = get_or xs (length xs - 1) (x + 1) == x

@@ -2,7 +2,7 @@
 
 ghost use Rattle.std.specs.Prelude.{◌≡◌, ℕ, ◌<◌, ◌==◌, [], ◌∷◌, ◌++◌, List, OnOk, OnErr, length, slice_get, set, if◌then◌else◌};
 ghost use Rattle.dl_net.specs.Lines.{list_of};
-ghost use Rattle.dl_net.specs.Tables.{drop_item, ends_with};
+ghost use Rattle.dl_net.specs.Tables.{drop_item};
 
 use dl_base::Memory;
 
@@ -32,17 +32,6 @@ pub(crate) trait Lists {
         ensures { result ≡ slice_get (list_of (lists self.now) number) at }
     {
         self.row(number).get(at).copied()
-    }
-
-    /// Whether this is the last number of a list.
-    #[inline(always)]
-    fn ends_with(&self, number: usize, item: u32) -> bool
-        ensures { result ≡ ends_with (list_of (lists self.now) number) item }
-    {
-        match self.row(number).last() {
-            None => false,
-            Some(last) => *last == item,
-        }
     }
 
     /// A number at the end of a list. `Memory` where there is none for it, or where the lists are packed and this one is full.

@@ -1,7 +1,7 @@
 //! Lists of numbers, packed one behind another.
 
 ghost use Rattle.std.specs.Prelude.{◌≡◌, ℕ, ◌+◌, ◌<◌, ◌≤◌, ◌==◌, [], ◌∷◌, ◌++◌, OnOk, OnErr, IfOk, map, length, set, slice_get, take, if◌then◌else◌};
-ghost use Rattle.dl_net.specs.Tables.{drop_item, ends_with};
+ghost use Rattle.dl_net.specs.Tables.{drop_item};
 ghost use Rattle.dl_net.specs.Lines.{list_of};
 ghost use Rattle.dl_net.specs.Packed.{room_end};
 

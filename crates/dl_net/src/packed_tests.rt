@@ -20,7 +20,6 @@ fn packed_lists_fill_their_room_and_then_are_opened(rt: HostRuntime) -> Result<(
     assert_eq!(rt; rows.row(2), [6].as_slice());
     rows.append(2, 4)?;
     assert_eq!(rt; rows.get(2, 1), Some(4));
-    assert!(rt; rows.ends_with(2, 4));
     rows.clear(0);
     assert_eq!(rt; rows.count(0), 0);
     assert_eq!(rt; rows.count(2), 2);

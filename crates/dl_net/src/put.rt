@@ -1,6 +1,7 @@
 //! One more rule, in room that is there.
 
 ghost use Rattle.std.specs.Prelude.{◌≡◌, ℕ, ◌+◌, ◌<◌, ◌≤◌, ◌^◌, max, [], ◌∷◌, ◌++◌, All, length, OnOk, if◌then◌else◌, set};
+ghost use Rattle.dl_base.specs.Paths.{IsDistinct};
 ghost use Rattle.dl_net.specs.Tables.{list_at, spare_at, KeepsLists};
 ghost use Rattle.dl_net.specs.Lines.{is_in};
 
@@ -11,19 +12,16 @@ use crate::rows::RowTable;
 use crate::table::Table;
 use dl_base::Memory;
 
-/// The number goes last into the lists of a body's literals, once into each.
+/// The number goes last into the lists of a body's literals, of which none stands twice.
 pub(crate) fn put_uses(uses: &mut RowTable, body: &[u32], rule: u32)
     requires room { All (λ b. 0 < spare_at uses.old b) body.now }
     requires within { All (λ b. b < length uses.old.lists) body.now }
-    requires fresh { (n : ℕ) → All (λ s. s < rule) (list_at uses.old n) }
+    requires once { IsDistinct body.now }
     ensures lists { (n : ℕ) → list_at uses.new n ≡ list_at uses.old n ++ (if is_in body.now n then rule ∷ [] else []) }
     ensures wide { length uses.new.lists ≡ length uses.old.lists }
 {
     for number in body {
-        let number = *number as usize;
-        if !uses.ends_with(number, rule) {
-            uses.push(number, rule);
-        }
+        uses.push(*number as usize, rule);
     }
 }
 
@@ -118,7 +116,6 @@ pub(crate) fn put_rule(
     requires heads_room { 0 < spare_at heads.old entry.head }
     requires uses_room { All (λ b. 0 < spare_at uses.old b) entry.body }
     requires within { All (λ b. b < length uses.old.lists) entry.body }
-    requires fresh { (n : ℕ) → All (λ s. s < length lines.old.items) (list_at uses.old n) }
     ensures lines { lines.new.items ≡ lines.old.items ++ entry ∷ [] }
     ensures order { order.new.items ≡ order.old.items ++ length lines.old.items ∷ [] }
     ensures places { places.new.items ≡ places.old.items ++ length order.old.items ∷ [] }
@@ -129,7 +126,7 @@ pub(crate) fn put_rule(
     let rule = lines.len() as u32;
     let place = order.len() as u32;
     heads.push(entry.head as usize, rule);
-    put_uses(uses, entry.body.as_slice(), rule);
+    put_uses(uses, entry.body.each_once(), rule);
     lines.push(entry);
     order.push(rule);
     places.push(place);

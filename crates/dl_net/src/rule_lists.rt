@@ -1,6 +1,7 @@
 //! The lists that lead to rules which are all there.
 
 ghost use Rattle.std.specs.Prelude.{◌≡◌, ◌<◌, ◌^◌, ℕ, All, IfOk, OnOk, [], ◌∷◌, ◌++◌, length, map, set, if◌then◌else◌};
+ghost use Rattle.dl_base.specs.Paths.{IsDistinct};
 ghost use Rattle.dl_net.specs.Tables.{list_at};
 ghost use Rattle.dl_net.specs.Lines.{IsWithin, line_at, is_in};
 ghost use Rattle.dl_net.specs.Indexes.{HasRules};
@@ -62,7 +63,6 @@ impl RuleLists {
         requires few { length lines.now.items < 2 ^ 32 }
         requires head { (line_at lines.now.items rule).head < length self.old.heads.lists }
         requires body { All (λ b. b < length self.old.uses.lists) (line_at lines.now.items rule).body }
-        requires fresh { (n : ℕ) → All (λ s. s < rule) (list_at self.old.uses n) }
         ensures order { OnOk result (self.new.order.items ≡ self.old.order.items ++ rule ∷ []) }
         ensures places { OnOk result (self.new.places.items ≡ self.old.places.items ++ rule ∷ []) }
         ensures heads { OnOk result (self.new.heads.lists ≡ set self.old.heads.lists (line_at lines.now.items rule).head (list_at self.old.heads (line_at lines.now.items rule).head ++ rule ∷ [])) }
@@ -88,18 +88,16 @@ fn count_lists(lines: &Lines, names: usize) -> usize
     if lines.len() == 0 { 0 } else { names }
 }
 
-/// The number goes last into the lists of a body's literals, once into each.
+/// The number goes last into the lists of a body's literals, of which none stands twice.
+// that no list has the number yet is known: to ask its list would be to wait for memory once more
 fn append_uses(uses: &mut RowTable, body: &[u32], rule: u32) -> Result<(), Memory>
     requires within { All (λ b. b < length uses.old.lists) body.now }
-    requires fresh { (n : ℕ) → All (λ s. s < rule) (list_at uses.old n) }
+    requires once { IsDistinct body.now }
     ensures lists { OnOk result ((n : ℕ) → list_at uses.new n ≡ list_at uses.old n ++ (if is_in body.now n then rule ∷ [] else [])) }
     ensures wide { OnOk result (length uses.new.lists ≡ length uses.old.lists) }
 {
     for number in body {
-        let number = *number as usize;
-        if !uses.ends_with(number, rule) {
-            uses.append(number, rule)?;
-        }
+        uses.append(*number as usize, rule)?;
     }
     Ok(())
 }

@@ -1,22 +1,13 @@
-use Rattle.std.proofs.Common.{◌≡◌, ℕ, ◌<◌, List, [], ◌∷◌, ◌++◌, length, map, sym, ap, subst, ◌∙◌, arith, length-append}
-use Rattle.std.specs.Prelude.{Contains, option_to_list}
-use Rattle.std.proofs.lemmas.List.Elements.{Contains-append_left, All-contains, All-weaker}
+use Rattle.std.proofs.Common.{◌≡◌, ℕ, List, [], ◌∷◌, ◌++◌, length, map, sym, ap, subst, ◌∙◌, arith, length-append}
+use Rattle.std.specs.Prelude.{option_to_list}
+use Rattle.std.proofs.lemmas.List.Elements.{Contains-append_left}
 use Rattle.dl_net.specs.declared.entry.Room.{Room}
-use Rattle.dl_net.specs.Tables.{list_at}
 use Rattle.dl_net.specs.Lines.{IndexLists, line_at, Line}
 use Rattle.dl_net.specs.Indexes.{by_place, HasRules, HasLinks}
 use Rattle.dl_net.specs.KeptIndex.{HasRoom, HasRuleRoom, ready_of}
-use Rattle.dl_net.proofs.PlaceLemmas.{uses_there}
 use Rattle.dl_net.proofs.Keeping.{KeepsLists-refl}
 use Rattle.dl_net.proofs.RuleLemmas.{HasRules-add, HasLinks-more, lines-add, by_place-add}
 use Rattle.dl_net.proofs.index.Index.put.Goals as goal
-
-pub put_rule-requires-clause-fresh : goal.put_rule-requires-clause-fresh
-put_rule-requires-clause-fresh c = λ n.
-    All-weaker (Contains c.self.inside.order.items) (λ s. s < length c.self.inside.lines.items)
-    (λ s m. All-contains (λ t. t < length c.self.inside.lines.items) c.self.inside.order.items s c.self.invariant.rules.within m)
-    (list_at c.self.inside.uses n)
-    (uses_there c.self.invariant.rules n)
 
 pub invariant_of-self : goal.invariant_of-self
 invariant_of-self c =

@@ -1,8 +1,9 @@
 use Rattle.std.proofs.Common.{◌≡◌, ℕ, ◌<◌, Bool, List, [], ◌∷◌, ◌++◌, length, cond, sym, ap, subst, ◌∙◌}
 use Rattle.std.specs.Prelude.{All}
+use Rattle.dl_base.specs.Paths.{IsDistinct}
 use Rattle.dl_net.specs.Tables.{list_at}
 use Rattle.dl_net.specs.Lines.{line_at, is_in}
-use Rattle.dl_net.proofs.OnceLemmas.{All-each_once, is_in-each_once}
+use Rattle.dl_net.proofs.OnceLemmas.{All-each_once, is_in-each_once, distinct_once}
 use Rattle.dl_net.proofs.rule_lists.RuleLists.enter.Goals as goal
 
 pub append_uses-requires-clause-within : goal.append_uses-requires-clause-within
@@ -10,6 +11,10 @@ append_uses-requires-clause-within c =
     let most : ℕ = length c.args.self.now.uses.lists in
     subst (λ (ns : List ℕ). All (λ n. n < most) ns) (sym c.each_once.ensures.numbers)
     (All-each_once (λ n. n < most) (line_at c.args.lines.now.items c.args.rule).body c.requires.body)
+
+pub append_uses-requires-clause-once : goal.append_uses-requires-clause-once
+append_uses-requires-clause-once c =
+    subst (λ (ns : List ℕ). IsDistinct ns) (sym c.each_once.ensures.numbers) (distinct_once (line_at c.args.lines.now.items c.args.rule).body)
 
 pub returns-clause-uses : goal.returns-clause-uses
 returns-clause-uses c = λ n.

@@ -1,23 +1,11 @@
 use Rattle.std.proofs.Common.{◌≡◌, ℕ, ◌+◌, ◌<◌, List, [], ◌∷◌, ◌++◌, length, take, map, set, cond, sym, ap, subst, ◌∙◌, arith}
-use Rattle.std.specs.Prelude.{Contains}
 use Rattle.std.proofs.Math.ListN.{length-map, length-set}
 use Rattle.std.proofs.lemmas.List.{take_more, length-take-le}
-use Rattle.std.proofs.lemmas.List.Elements.{All-contains, All-weaker}
 use Rattle.dl_net.specs.Tables.{RowLists, list_at}
 use Rattle.dl_net.specs.Lines.{Line, no_line, line_at, is_in, IsWithin}
 use Rattle.dl_net.specs.Indexes.{HasRules}
-use Rattle.dl_net.proofs.PlaceLemmas.{uses_there}
 use Rattle.dl_net.proofs.RuleLemmas.{HasRules-add, lines-add}
 use Rattle.dl_net.proofs.rule_lists.RuleLists.of.Goals as goal
-
-pub enter-requires-clause-fresh : goal.enter-requires-clause-fresh
-enter-requires-clause-fresh c = λ n.
-    let lines : List Line = take c.loop-rule.rule c.args.lines.now.items in
-    let count : length lines ≡ c.loop-rule.rule = length-take-le c.loop-rule.rule c.args.lines.now.items (omega (arith, c.loop-rule-test.true, c.len-rule-end.ensures)) in
-    let order : List ℕ = c.loop-rule.lists.order.items in
-    All-weaker (Contains order) (λ s. s < c.loop-rule.rule)
-    (λ s m. omega (arith, count, All-contains (λ t. t < length lines) order s c.loop-rule.invariant.rules.within m))
-    (list_at c.loop-rule.lists.uses n) (uses_there c.loop-rule.invariant.rules n)
 
 pub loop-rule-preserved : goal.loop-rule-preserved
 loop-rule-preserved c =
