@@ -40,6 +40,10 @@ pub(crate) trait Lists {
         ensures lists { OnOk result (lists self.new ≡ set (lists self.old) number (list_of (lists self.old) number ++ item ∷ [])) }
         ensures kept { OnErr result (lists self.new ≡ lists self.old) };
 
+    /// Whether one more number has room in a list without moving it. To ask brings near where the list stands, and no clause rests on
+    /// the answer.
+    fn has_room(&self, number: usize) -> bool;
+
     /// Takes a number out of a list. Past the end no list has any.
     fn remove(&mut self, number: usize, item: u32)
         ensures lists { (n : ℕ) → list_of (lists self.new) n ≡ (if n == number then drop_item item (list_of (lists self.old) n) else list_of (lists self.old) n) }

@@ -104,6 +104,10 @@ impl Lists for OpenRows {
         Ok(())
     }
 
+    fn has_room(&self, _number: usize) -> bool {
+        true
+    }
+
     fn remove(&mut self, number: usize, item: u32) {
         if number >= self.rows.len() {
             return;

@@ -99,6 +99,17 @@ impl Lists for PackedRows {
         Ok(())
     }
 
+    #[inline(always)]
+    fn has_room(&self, number: usize) -> bool {
+        match self.spans.get(number) {
+            None => false,
+            Some(span) => {
+                let room = room_end(self.spans.as_slice(), number, self.items.len());
+                (span.start as usize + span.len as usize) < room
+            }
+        }
+    }
+
     fn remove(&mut self, number: usize, item: u32) {
         if number >= self.spans.len() {
             return;

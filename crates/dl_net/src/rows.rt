@@ -129,6 +129,14 @@ impl Lists for RowTable {
         }
     }
 
+    #[inline(always)]
+    fn has_room(&self, number: usize) -> bool {
+        match &self.rows {
+            Rows::Open(rows) => rows.has_room(number),
+            Rows::Packed(rows) => rows.has_room(number),
+        }
+    }
+
     fn remove(&mut self, number: usize, item: u32) {
         match &mut self.rows {
             Rows::Open(rows) => rows.remove(number, item),

@@ -13,6 +13,9 @@ use crate::table::Table;
 use dl_base::Memory;
 use std::alloc::Global;
 
+/// So many rules are looked at before they are entered.
+const BLOCK: usize = 32;
+
 /// The order and the places of rules, and those with each head and with each literal in the body.
 #[derive(Drop)]
 pub(crate) struct RuleLists {
@@ -32,9 +35,34 @@ impl RuleLists {
     {
         let mut lists = RuleLists::with_room(alloc, lines, count_lists(lines, names))?;
         for rule in 0..lines.len() {
+            if rule % BLOCK == 0 && !lists.have_room(lines, rule) {
+                return Err(Memory);
+            }
             lists.enter(lines, rule)?;
         }
         Ok(lists)
+    }
+
+    /// Whether the lists of the next rules have room. Rules that are entered one by one would wait for memory one by one: where a number
+    /// goes is known only when its list has come, and what is read behind such a write waits for it. To look at many lists before
+    /// anything is written makes them come together.
+    fn have_room(&self, lines: &Lines, from: usize) -> bool {
+        let end = usize::min(from.saturating_add(BLOCK), lines.len());
+        for rule in from..end {
+            if !self.has_room(lines, rule) {
+                return false;
+            }
+        }
+        true
+    }
+
+    /// Whether each list that a rule goes into has room.
+    #[inline(always)]
+    fn has_room(&self, lines: &Lines, rule: usize) -> bool
+        requires { rule < length lines.now.items }
+    {
+        self.heads.has_room(lines.head(rule) as usize)
+            && uses_have_room(&self.uses, lines.each_once(rule))
     }
 
     /// Empty lists, with room for these rules.
@@ -86,6 +114,17 @@ fn count_lists(lines: &Lines, names: usize) -> usize
     ensures { All (IsWithin result) lines.now.items }
 {
     if lines.len() == 0 { 0 } else { names }
+}
+
+/// Whether the lists of a body's literals have room.
+#[inline(always)]
+fn uses_have_room(uses: &RowTable, body: &[u32]) -> bool {
+    for number in body {
+        if !uses.has_room(*number as usize) {
+            return false;
+        }
+    }
+    true
 }
 
 /// The number goes last into the lists of a body's literals, of which none stands twice.
