@@ -1,12 +1,12 @@
 -- What the fields of counters keep.
-use Rattle.std.proofs.Common.{◌≡◌, ℕ, ◌+◌, ◌-◌, ◌<◌, ◌≤◌, ◌==◌, ◌&&◌, ◌⊎◌, Bool, true, false, cond, not, List, [], ◌∷◌, ◌++◌, length, get_or, set, inl, inr, sym, subst, ap, refl, ◌∙◌, arith, length-set, length-append, get_or-set_same, get_or-set_other, true≢false}
+use Rattle.std.proofs.Common.{◌≡◌, ◌≢◌, ℕ, ◌+◌, ◌-◌, ◌<◌, ◌≤◌, ◌==◌, ◌&&◌, ◌⊎◌, Bool, true, false, cond, not, List, [], ◌∷◌, ◌++◌, length, get_or, set, inl, inr, sym, subst, ap, refl, ◌∙◌, arith, length-set, length-append, get_or-set_same, get_or-set_other, true≢false}
 use Rattle.std.specs.Prelude.{nat_lt}
-use Rattle.std.proofs.lemmas.Bool.{cases_eq, lt-ltb, ne_eqb}
-use Rattle.std.proofs.lemmas.List.{set-get_or}
+use Rattle.std.proofs.lemmas.Bool.{cases_eq, lt-ltb, eq-eqb, ne_eqb}
+use Rattle.std.proofs.lemmas.List.{set-get_or, append-nil}
 use Rattle.std.proofs.lemmas.List.Sums.{sum_by-set}
 use Rattle.dl_net.specs.Counting.{times}
 use Rattle.dl_fill.specs.Cells.{CellLists, comes_down, counted_down}
-use Rattle.dl_fill.specs.Counters.{waiting, IsQueue, IsKept}
+use Rattle.dl_fill.specs.Counters.{CounterLists, hit, waiting, IsQueue, IsKept}
 use Rattle.dl_fill.specs.Prepared.{one_if}
 use Rattle.dl_fill.proofs.Times.{times_push_same, times_push_other, times_cons_same, times_cons_other}
 
@@ -33,7 +33,17 @@ waiting_none need z v lt e = omega (arith, waiting-set need z v lt, ap (λ (n : 
 waiting_less : (need : List ℕ) (z : ℕ) → z < length need → 0 < get_or need z 0 → waiting (set need z 0) + 1 ≡ waiting need
 waiting_less need z lt h = omega (arith, waiting-set need z 0 lt, ap one_if (lt-ltb 0 (get_or need z 0) h))
 
+waiting_down : (need : List ℕ) (z v : ℕ) → z < length need → v ≤ get_or need z 0 → waiting (set need z v) ≤ waiting need
+waiting_down need z v lt le = elim (cases_eq (get_or need z 0) 0) [
+  | inl none ↦ waiting_none need z v lt (omega (arith, none, le))
+  | inr some ↦ omega (arith, waiting-set need z v lt, ap one_if (lt-ltb 0 (get_or need z 0) (omega (arith, some))), one_most (nat_lt 0 v))
+]
+
 -- ---- the queue
+
+-- a node, where it fires
+abbrev pub one_where : Bool → ℕ → List ℕ
+one_where on y = cond on (y ∷ []) []
 
 module _ (fired : List Bool) (need queue : List ℕ) (h : IsQueue fired need queue) where
   -- a node that has fired waits for nothing
@@ -164,21 +174,75 @@ module _ (fired : List Bool) (need queue : List ℕ) (capacity : ℕ) (h : IsKep
         by_flag true e = sym (ap (λ n. n == 1) (idle_on e))
         by_flag false e = refl
 
-    -- the place comes to 0 by the last hit that the node waits for
-    pub last_of : comes_down cells y ≡ true → left ≡ 1
-    last_of e = elim (cases_eq left 1) [
-      | inl last ↦ last
-      | inr more ↦ absurd (true≢false (sym e ∙ comes_last ∙ ne_eqb left 1 more))
-    ]
-
-    pub counted_last : left ≡ 1 → counted_down cells y ≡ record { flags = set fired y true; numbers = set need y 0 }
+    counted_last : left ≡ 1 → counted_down cells y ≡ record { flags = set fired y true; numbers = set need y 0 }
     counted_last e = by_flag (get_or fired y false) refl ∙ ap (λ n. record { flags = set fired y (n == 1); numbers = set need y (n - 1) }) e
       where
         by_flag : (on : Bool) → get_or fired y false ≡ on → lowered on (left == 1) ≡ lowered false (left == 1)
         by_flag true k = absurd (omega (arith, e, idle_on k))
         by_flag false k = refl
 
-    pub last_kept : left ≡ 1 → IsKept (set fired y true) (set need y 0) (queue ++ y ∷ []) capacity
+    last_kept : left ≡ 1 → IsKept (set fired y true) (set need y 0) (queue ++ y ∷ []) capacity
     last_kept e =
         fired_kept (waits_outside fired need queue h.queued y (omega (arith, e)))
         (omega (arith, waiting_less need y lt (omega (arith, e)), h.few))
+
+    more_left : left ≢ 1 → counted_down cells y ≡ record { flags = fired; numbers = set need y (left - 1) }
+    more_left n = by_flag (get_or fired y false) refl
+      where
+        by_flag : (on : Bool) → get_or fired y false ≡ on → lowered on (left == 1) ≡ record { flags = fired; numbers = set need y (left - 1) }
+        by_flag true k =
+            ap (λ (ns : List ℕ). record { flags = fired; numbers = ns }) (sym (set_kept need y (left - 1) (omega (arith, idle_on k))))
+        by_flag false k =
+            ap (λ (fs : List Bool). record { flags = fs; numbers = set need y (left - 1) })
+            (ap (set fired y) (ne_eqb left 1 n ∙ sym k) ∙ set-get_or fired y false)
+
+    more_kept : left ≢ 1 → IsKept fired (set need y (left - 1)) queue capacity
+    more_kept n =
+        need_kept (left - 1)
+        (elim (cases_eq left 0) [
+          | inl none ↦ inl (omega (arith, none))
+          | inr some ↦ inr (waits_outside fired need queue h.queued y (omega (arith, some)))
+        ])
+        (omega (arith, waiting_down need y (left - 1) lt (omega arith), h.few))
+
+    abbrev lists : CounterLists
+    lists = record { need = need; queue = queue }
+
+    abbrev hit_by : Bool → Bool → CounterLists
+    hit_by none last = cond none lists (record { need = set need y (left - 1); queue = cond last (queue ++ y ∷ []) queue })
+
+    -- counters whose cell has counted down, and whose queue has the node where it came down
+    pub record IsHit (v : CellLists) (on : Bool) : Type 0 where
+      pub kept : IsKept v.flags v.numbers (queue ++ one_where on y) capacity
+      pub same : hit lists y ≡ record { need = v.numbers; queue = queue ++ one_where on y }
+
+    last_hit : left ≡ 1 → IsHit (record { flags = set fired y true; numbers = set need y 0 }) true
+    last_hit e = record {
+      kept = last_kept e;
+      same =
+          ap (λ b. hit_by b (left == 1)) (ne_eqb left 0 (omega (arith, e))) ∙ ap (hit_by false) (eq-eqb left 1 e)
+          ∙ ap (λ (n : ℕ). record { need = set need y (n - 1); queue = queue ++ y ∷ [] }) e;
+    }
+
+    more_hit : left ≢ 1 → IsHit (record { flags = fired; numbers = set need y (left - 1) }) false
+    more_hit n = record {
+      kept = subst (λ (xs : List ℕ). IsKept fired (set need y (left - 1)) xs capacity) (sym (append-nil queue)) (more_kept n);
+      same =
+          elim (cases_eq left 0) [
+            | inl none ↦
+                ap (λ b. hit_by b (left == 1)) (eq-eqb left 0 none)
+                ∙ ap (λ (ns : List ℕ). record { need = ns; queue = queue }) (sym (set_kept need y (left - 1) (omega (arith, none))))
+            | inr some ↦ ap (λ b. hit_by b (left == 1)) (ne_eqb left 0 some) ∙ ap (hit_by false) (ne_eqb left 1 n)
+          ]
+          ∙ ap (λ (xs : List ℕ). record { need = set need y (left - 1); queue = xs }) (sym (append-nil queue));
+    }
+
+    pub one_hit : IsHit (counted_down cells y) (comes_down cells y)
+    one_hit = elim (cases_eq left 1) [
+      | inl e ↦
+          subst (λ (v : CellLists). IsHit v (comes_down cells y)) (sym (counted_last e))
+          (subst (λ (b : Bool). IsHit (record { flags = set fired y true; numbers = set need y 0 }) b) (sym (comes_last ∙ eq-eqb left 1 e)) (last_hit e))
+      | inr n ↦
+          subst (λ (v : CellLists). IsHit v (comes_down cells y)) (sym (more_left n))
+          (subst (λ (b : Bool). IsHit (record { flags = fired; numbers = set need y (left - 1) }) b) (sym (comes_last ∙ ne_eqb left 1 n)) (more_hit n))
+    ]

@@ -1,7 +1,9 @@
 pub mod Packed
 pub mod Times
 pub mod Kept
+pub mod Blocks
 pub mod Engine
+pub mod Waiting
 pub mod Rows
 pub mod Once
 pub mod Attacks

@@ -1,5 +1,5 @@
 -- A flag and a number, in 32 bits.
-use Rattle.std.specs.Prelude.{Bool, false, ℕ, ◌-◌, ◌^◌, ◌==◌, ◌&&◌, cond, not, nat_lt, List, map, slice_index, slice_index_or, slice_set}
+use Rattle.std.specs.Prelude.{Bool, false, ℕ, ◌-◌, ◌^◌, ◌==◌, ◌&&◌, cond, not, nat_lt, List, [], ◌∷◌, map, slice_index, slice_index_or, slice_set}
 
 -- flags and numbers, by place
 pub record CellLists : Type 0 where
@@ -29,3 +29,8 @@ abbrev pub counted_down : CellLists → ℕ → CellLists
 counted_down v place =
     cond (slice_index_or v.flags place false) v
     (record { flags = slice_set v.flags place (slice_index v.numbers place == 1); numbers = slice_set v.numbers place (slice_index v.numbers place - 1) })
+
+-- whether each of the places comes down, where they are hit in order
+abbrev pub come_down : CellLists → List ℕ → List Bool
+come_down v [] = []
+come_down v (place ∷ places) = comes_down v place ∷ come_down (counted_down v place) places

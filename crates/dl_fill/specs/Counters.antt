@@ -16,6 +16,16 @@ hit w y =
       queue = cond (slice_index w.need y == 1) (w.queue ++ y ∷ []) w.queue;
     })
 
+-- hits are on nodes that there are
+abbrev pub AreNodes : CounterLists → List ℕ → Type 0
+AreNodes w hits = (y : ℕ) → 0 < times y hits → y < length w.need
+
+-- the nodes at which the list says so
+abbrev pub chosen : List Bool → List ℕ → List ℕ
+chosen bs [] = []
+chosen [] (y ∷ ys) = []
+chosen (b ∷ bs) (y ∷ ys) = cond b (y ∷ chosen bs ys) (chosen bs ys)
+
 -- how many nodes wait
 abbrev pub waiting : List ℕ → ℕ
 waiting need = count_by (λ n. nat_lt 0 n) need

@@ -1,8 +1,12 @@
 //! Counters and the queue.
 
 ghost use Rattle.std.specs.Prelude.{◌≡◌, ◌<◌, ◌≤◌, ◌+◌, ◌-◌, ◌^◌, ◌==◌, ◌∷◌, ◌++◌, [], length, slice_index, slice_set, IfOk, OnOk, OnErr, replicate, ◌↔◌, ◌⊎◌, ℕ, Bool, false, slice_index_or, IsTrue, if◌then◌else◌};
+ghost use Rattle.std.specs.Prelude.{take};
+ghost use Rattle.std.specs.List.{fold};
+ghost use Rattle.std.specs.Vec.{vec_capacity};
 ghost use Rattle.dl_net.specs.Counting.{times};
-ghost use Rattle.dl_fill.specs.Counters.{hit, waiting, IsQueue};
+ghost use Rattle.dl_fill.specs.Cells.{counted_down, come_down};
+ghost use Rattle.dl_fill.specs.Counters.{hit, chosen, waiting, AreNodes, IsQueue};
 
 use crate::cells::Cells;
 use dl_base::Memory;
@@ -14,6 +18,9 @@ const MOST_NODES: usize = 0x8000_0000;
 
 /// One node of so many in the queue makes it crowded.
 const CROWD: usize = 16;
+
+/// So many hits are made at once: more than a processor can wait for at a time.
+pub(crate) const BLOCK: usize = 64;
 
 /// How many hits each node still waits for, and the nodes that wait no more, in order. A node takes four bytes, and four more of a
 /// queue whose room is taken before, and touched only as far as nodes fire.
@@ -121,20 +128,30 @@ impl Counters {
         self.queue.clear();
     }
 
-    /// One hit on a node. The node is put behind the queue in any case, and taken away again where it waits for more: a branch on what its
-    /// cell says would mostly be guessed wrong, and the wait for the cell could then not be shared with the hits behind it.
-    // Inlined always, as what a run does at each node: so no hit costs a call.
+    /// A node as the queue has it.
     #[inline(always)]
-    pub fn hit(&mut self, node: usize)
-        requires { node < length self.old.need }
-        ensures { self.new ≡ hit self.old node }
+    pub(crate) fn word(&self, node: usize) -> u32
+        requires { node < length self.now.need }
+        ensures { result ≡ node }
     {
-        let len = self.queue.len();
-        let fires = self.cells.hit(node);
-        self.queue.push_reserved(node as u32);
-        if !fires {
-            self.queue.truncate(len);
-        }
+        // there are no more cells than numbers of 31 bits tell apart
+        let _size = self.cells.len();
+        node as u32
+    }
+
+    /// One hit on each of these nodes, in order. First all their cells count down, and then all pushes are made: where a push is written
+    /// hangs on what the cells before it say, so that hits that did both would wait for one cell after the other. The looks at the cells
+    /// hang on nothing, and their waits overlap.
+    // Not inlined: each wire of a run has a place for the call, which comes once a block.
+    #[inline(never)]
+    pub(crate) fn hit_all(&mut self, nodes: &[u32])
+        requires few { length nodes.now ≤ 64 }
+        requires inside { AreNodes self.old nodes.now }
+        ensures { self.new ≡ fold hit self.old nodes.now }
+    {
+        let mut fires = [false; BLOCK];
+        count_down(&mut self.cells, nodes, &mut fires);
+        push_chosen(&mut self.queue, nodes, &fires);
     }
 
     /// Whether the node stands in the queue.
@@ -192,5 +209,36 @@ fn wipe(cells: &mut Cells, queue: &[u32])
 {
     for node in queue {
         cells.wipe(*node as usize);
+    }
+}
+
+/// The cells of some nodes count down, in order, and tell which nodes fire.
+#[inline(always)]
+fn count_down(cells: &mut Cells, nodes: &[u32], fires: &mut [bool; BLOCK])
+    requires few { length nodes.now ≤ 64 }
+    requires inside { (y : ℕ) → 0 < times y nodes.now → y < length cells.old.flags }
+    ensures told { take (length nodes.now) fires.new ≡ come_down cells.old nodes.now }
+    ensures lower { cells.new ≡ fold counted_down cells.old nodes.now }
+{
+    for at in 0..nodes.len() {
+        fires[at] = cells.hit(nodes[at] as usize);
+    }
+}
+
+/// The nodes that fire go behind a queue. Each node is put there in any case, and taken away again where it does not fire: a branch on
+/// what its cell says would mostly be guessed wrong.
+#[inline(always)]
+fn push_chosen(queue: &mut Vec<u32>, nodes: &[u32], fires: &[bool; BLOCK])
+    requires few { length nodes.now ≤ 64 }
+    requires room { 0 < length nodes.now → length queue.old.items + length (chosen fires.now nodes.now) < vec_capacity queue.old }
+    ensures items { queue.new.items ≡ queue.old.items ++ chosen fires.now nodes.now }
+    ensures capacity { vec_capacity queue.new ≡ vec_capacity queue.old }
+{
+    for at in 0..nodes.len() {
+        let len = queue.len();
+        queue.push_reserved(nodes[at]);
+        if !fires[at] {
+            queue.truncate(len);
+        }
     }
 }

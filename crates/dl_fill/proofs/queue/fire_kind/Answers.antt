@@ -9,10 +9,10 @@ pub fire-requires-clause-inside : goal.fire-requires-clause-inside
 fire-requires-clause-inside c = λ y h.
     c.requires.inside y
     (subst (λ (ys : List ℕ). 0 < times y ys)
-    (edges_spanned c.args.net.now c.args.width c.args.node c.part.result.now c.args.wires.now (c.part.ensures.same (λ w. w.from) c.requires.spans)) h)
+    (edges_spanned c.args.net.now c.args.width c.args.node c.part-part.result.now c.args.wires.now (c.part-part.ensures.same (λ w. w.from) c.requires.spans)) h)
 
-pub returns : goal.returns
-returns c =
-    c.fire.ensures
-    ∙ ap (fold hit c.args.counters.now)
-    (edges_spanned c.args.net.now c.args.width c.args.node c.part.result.now c.args.wires.now (c.part.ensures.same (λ w. w.from) c.requires.spans))
+pub returns-clause-made : goal.returns-clause-made
+returns-clause-made c =
+    c.fire.ensures.made
+    ∙ ap (fold hit (fold hit c.args.counters.now c.args.hits.now.items))
+    (edges_spanned c.args.net.now c.args.width c.args.node c.part-part.result.now c.args.wires.now (c.part-part.ensures.same (λ w. w.from) c.requires.spans))

@@ -1,9 +1,10 @@
-use Rattle.std.proofs.Common.{◌≡◌, ℕ, ◌+◌, ◌*◌, ◌<◌, List, length, arith, ap, ◌∙◌, sym, subst, get_or}
+use Rattle.std.proofs.Common.{◌≡◌, ℕ, ◌+◌, ◌*◌, ◌<◌, List, length, take, arith, sym, subst, get_or}
+use Rattle.std.specs.List.{fold}
 use Rattle.dl_net.specs.Counting.{times}
 use Rattle.dl_net.specs.Numbers.{next}
 use Rattle.dl_fill.specs.Wires.{through}
-use Rattle.dl_fill.proofs.Engine.{length-hit}
-use Rattle.dl_fill.specs.Counters.{CounterLists}
+use Rattle.dl_fill.specs.Counters.{hit}
+use Rattle.dl_fill.proofs.Waiting.{length-made_more}
 use Rattle.dl_fill.proofs.Hits.{made_inside, send_step}
 use Rattle.dl_fill.proofs.queue.follow.Goals as goal
 
@@ -13,27 +14,33 @@ inside_at s to n xs i x lt e h = subst (λ (v : ℕ). v * s + to < n) (sym e) (m
 pub overflow_mul-place : goal.overflow_mul-place
 overflow_mul-place c =
     let lt : c.loop-at.at < length (next c.args.net.now c.args.link c.args.from) = omega arith in
-    let inside = inside_at c.args.width c.args.to (length c.args.counters.now.need) (next c.args.net.now c.args.link c.args.from) c.loop-at.at c.next-place.result lt c.next-place.ensures c.requires in
+    let inside = inside_at c.args.width c.args.to (length c.args.counters.now.need) (next c.args.net.now c.args.link c.args.from) c.loop-at.at c.next-place.result lt c.next-place.ensures c.requires.inside in
     omega (arith, inside, c.size-size.ensures, c.size-size.type_inv)
 
 pub overflow_add-place : goal.overflow_add-place
 overflow_add-place c =
     let lt : c.loop-at.at < length (next c.args.net.now c.args.link c.args.from) = omega arith in
-    let inside = inside_at c.args.width c.args.to (length c.args.counters.now.need) (next c.args.net.now c.args.link c.args.from) c.loop-at.at c.next-place.result lt c.next-place.ensures c.requires in
+    let inside = inside_at c.args.width c.args.to (length c.args.counters.now.need) (next c.args.net.now c.args.link c.args.from) c.loop-at.at c.next-place.result lt c.next-place.ensures c.requires.inside in
     omega (arith, inside, c.size-size.ensures, c.size-size.type_inv)
 
-pub hit-requires : goal.hit-requires
-hit-requires c =
-    let lt : c.loop-at.at < length (next c.args.net.now c.args.link c.args.from) = omega arith in
-    let inside = inside_at c.args.width c.args.to (length c.args.counters.now.need) (next c.args.net.now c.args.link c.args.from) c.loop-at.at c.next-place.result lt c.next-place.ensures c.requires in
-    omega (arith, inside, c.loop-at.invariant.size)
+pub later-requires-clause-inside : goal.later-requires-clause-inside
+later-requires-clause-inside c =
+    let xs = next c.args.net.now c.args.link c.args.from in
+    let lt : c.loop-at.at < length xs = omega arith in
+    let inside = inside_at c.args.width c.args.to (length c.args.counters.now.need) xs c.loop-at.at c.next-place.result lt c.next-place.ensures c.requires.inside in
+    omega (
+      arith,
+      inside,
+      length-made_more c.args.counters.now c.loop-at.counters c.loop-at.hits.items c.args.hits.now.items (take c.loop-at.at (through c.args.width c.args.to xs)) c.loop-at.invariant.made,
+    )
 
 pub loop-at-preserved : goal.loop-at-preserved
 loop-at-preserved c =
+    let start = fold hit c.args.counters.now c.args.hits.now.items in
     let lt : c.loop-at.at < length (next c.args.net.now c.args.link c.args.from) = omega arith in
-    let s = send_step c.args.width c.args.counters.now c.args.to (next c.args.net.now c.args.link c.args.from) c.loop-at.at lt in
+    let s = send_step c.args.width start c.args.to (next c.args.net.now c.args.link c.args.from) c.loop-at.at lt in
     record {
-      counters = cc (s, c.next-place.ensures, c.hit.ensures, c.loop-at.invariant.counters);
-      size = ap (λ (w : CounterLists). length w.need) c.hit.ensures ∙ length-hit c.loop-at.counters (c.next-place.result * c.args.width + c.args.to) ∙ c.loop-at.invariant.size;
+      made = cc (s, c.next-place.ensures, c.later.ensures.made, c.loop-at.invariant.made);
+      waits = c.later.ensures.waits;
       «end» = c.loop-at.invariant.«end»;
     }

@@ -5,7 +5,7 @@ use Rattle.dl_net.specs.declared.link.Link.{Link}
 use Rattle.dl_fill.specs.Wires.{through}
 use Rattle.dl_fill.proofs.queue.send.Goals as goal
 
-pub follow-requires : goal.follow-requires
-follow-requires c =
+pub follow-requires-clause-inside : goal.follow-requires-clause-inside
+follow-requires-clause-inside c =
     subst (λ (l : Link). (y : ℕ) → 0 < times y (through c.args.width c.args.to (next c.args.net.now l c.args.from)) → y < length c.args.counters.now.need)
-    c.in-Same.is c.requires
+    c.in-Same.is c.requires.inside
