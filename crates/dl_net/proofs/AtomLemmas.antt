@@ -19,6 +19,8 @@ use Rattle.dl_lit.specs.declared.literal.Literal.{Literal}
 use Rattle.dl_net.specs.declared.atom.Atom.{Atom}
 use Rattle.dl_net.specs.Atoms.{mode_at, first_of, pair_eq, pair_eq-Decides}
 use Rattle.dl_net.specs.Pairs.{same_atom, same_atom-Decides}
+use Rattle.dl_net.proofs.PairLemmas.{new_at}
+use Rattle.dl_net.proofs.StagedLemmas.{slice_get-append_left}
 
 -- ---- tests of what is made of the members of a list
 
@@ -69,23 +71,14 @@ not_false false e = cc
 
 -- ---- modes by number
 
-get_kept : {A : Type 0} (xs more : List A) (n : ℕ) → n < length xs → slice_get (xs ++ more) n ≡ slice_get xs n
-get_kept [] more n lt = absurd (omega (arith, lt))
-get_kept (x ∷ xs) more zero lt = refl
-get_kept (x ∷ xs) more (suc n) lt = get_kept xs more n (omega (arith, lt))
-
 -- more modes leave the numbers of those that were there
 pub mode_kept : (modes more : List (List ℕ)) (m : ℕ) → m ≤ length modes → mode_at (modes ++ more) m ≡ mode_at modes m
 mode_kept modes more zero h = refl
-mode_kept modes more (suc m) h = get_kept modes more m (omega (arith, h))
-
-new_at : {A : Type 0} (xs : List A) (x : A) → slice_get (xs ++ x ∷ []) (length xs) ≡ Some x
-new_at [] x = refl
-new_at (y ∷ xs) x = new_at xs x
+mode_kept modes more (suc m) h = slice_get-append_left modes more m (omega (arith, h))
 
 -- a new mode has the first number that was free
 pub mode_new : (modes : List (List ℕ)) (mode : List ℕ) → mode_at (modes ++ mode ∷ []) (suc (length modes)) ≡ Some mode
-mode_new modes mode = new_at modes mode
+mode_new modes mode = new_at modes mode []
 
 module _ {A : Type 0} (xs : List A) (distinct : IsDistinct xs) where
   one_place : (i j : ℕ) (x : A) → slice_get xs i ≡ Some x → slice_get xs j ≡ Some x → i ≡ j

@@ -27,3 +27,5 @@ pub mod OccursLemmas
 pub mod StagedLemmas
 mod RegionLemmas
 pub mod AtomLemmas
+pub mod StemLemmas
+pub mod NotedLemmas

@@ -171,9 +171,10 @@ found_second ps q k p distinct e at differs =
 pub added_pair : (qs qs' : List Literal) (q : Literal) → qs' ≡ qs ++ q ∷ [] → pairs_of qs' ≡ pairs_of qs ++ q ∷ complement q ∷ []
 added_pair qs qs' q e = ap pairs_of e ∙ pairs_push qs q
 
-new_at : (ls : List Literal) (q : Literal) (more : List Literal) → slice_get (ls ++ q ∷ more) (length ls) ≡ Some q
-new_at [] q more = refl
-new_at (x ∷ ls) q more = new_at ls q more
+-- what is added to a list stands at its old length
+pub new_at : {A : Type 0} (xs : List A) (x : A) (more : List A) → slice_get (xs ++ x ∷ more) (length xs) ≡ Some x
+new_at [] x more = refl
+new_at (y ∷ xs) x more = new_at xs x more
 
 -- a literal that joins gets the first number that was free
 pub numbered : (new ls : List Literal) (q : Literal) (n : ℕ) → IsDistinct new → new ≡ ls ++ q ∷ complement q ∷ [] → n ≡ length ls

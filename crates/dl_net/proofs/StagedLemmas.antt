@@ -123,7 +123,7 @@ pub pairs_kept : (H : TheoryLists) (o : Option Edit) → Holds (told H o) H o �
 pairs_kept H None h = begins_same H.pairs H.pairs refl
 pairs_kept H (Some e) h = pairs_begin (taken_back H e) H e h
 
-slice_get-append_left : {X : Type 0} (xs ys : List X) (i : ℕ) → i < length xs → slice_get (xs ++ ys) i ≡ slice_get xs i
+pub slice_get-append_left : {X : Type 0} (xs ys : List X) (i : ℕ) → i < length xs → slice_get (xs ++ ys) i ≡ slice_get xs i
 slice_get-append_left [] ys i lt = absurd (omega (arith, lt))
 slice_get-append_left (x ∷ xs) ys zero lt = refl
 slice_get-append_left (x ∷ xs) ys (suc i) lt = slice_get-append_left xs ys i (omega (arith, lt))

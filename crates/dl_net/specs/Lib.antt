@@ -29,6 +29,7 @@ pub mod KeptGraph
 pub mod KeptNumbered
 pub mod KeptNumberedNet
 pub mod Region
+pub mod Stems
 pub mod Atoms
 pub mod KeptAtoms
 pub mod GraphNames

@@ -1,14 +1,16 @@
 //! Pairs of literals that are kept by the atom and the number of the mode.
 
-ghost use Rattle.std.specs.Prelude.{◌≡◌, ◌≤◌, ◌+◌, ◌^◌, ◌++◌, ◌∷◌, [], IfNone, IfOk, IfSome, OnOk, OnErr, ℕ, List, false, length};
+ghost use Rattle.std.specs.Prelude.{◌≡◌, ◌<◌, ◌≤◌, ◌+◌, ◌-◌, ◌/◌, ◌%◌, ◌==◌, ◌^◌, ◌++◌, ◌∷◌, ◌⊎◌, [], IfNone, IfOk, IfSome, OnOk, OnErr, ℕ, List, false, length};
 ghost use Rattle.std.specs.List.{list_any};
 ghost use Rattle.std.specs.Option.{option_copied};
 ghost use Rattle.std.specs.Str.{bytes_eq};
 ghost use Rattle.dl_base.specs.Paths.{IsDistinct};
 ghost use Rattle.dl_net.specs.Atoms.{mode_at};
+ghost use Rattle.dl_net.specs.Stems.{Knows};
 
 use crate::atom::{Atom, Sought};
 use crate::pair_set::PairSet;
+use crate::stems::Stems;
 use dl_base::Memory;
 use dl_lit::{Literal, LiteralRef, Name, NameSet, name_set};
 use std::alloc::Global;
@@ -17,6 +19,9 @@ use std::marker::Model;
 /// As many modes as surely have numbers of 32 bits.
 const MODE_LIMIT: usize = 0x8000_0000;
 
+/// As many pairs as can be noted by numbers of 32 bits.
+const NOTED_LIMIT: usize = 0x7fff_ffff;
+
 /// Pairs of which the atom, the sign of the first literal and the number of the mode are kept: a fourth of what two literals take, so
 /// that a look-up seldom waits for memory.
 #[derive(Drop)]
@@ -24,6 +29,8 @@ pub(crate) struct AtomPairs {
     /// The modes, by number less one.
     modes: NameSet<Name>,
     atoms: NameSet<Atom>,
+    /// Where pairs without a mode stand whose atoms end in a number: twice the place, and one more where the first is negative.
+    stems: Stems,
 }
 
 impl Model for AtomPairs {
@@ -46,6 +53,7 @@ impl PairSet for AtomPairs {
         AtomPairs {
             modes: name_set(alloc),
             atoms: name_set(alloc),
+            stems: Stems::make(alloc),
         }
     }
 
@@ -73,6 +81,11 @@ impl PairSet for AtomPairs {
 
     #[inline(always)]
     fn find(&self, literal: &Literal) -> Option<(usize, bool)> {
+        if literal.mode.is_none() {
+            if let Some(number) = self.stems.get(literal.atom.bytes()) {
+                return Some((number as usize / 2, number % 2 == 0));
+            }
+        }
         match find_mode(&self.modes, &literal.mode) {
             None => None,
             Some(mode) => match self.atoms.get_full(Sought {
@@ -86,7 +99,7 @@ impl PairSet for AtomPairs {
     }
 
     #[inline(always)]
-    fn put(&mut self, literal: &Literal) -> Result<Option<usize>, Memory> {
+    fn put(&mut self, literal: &Literal, likely_sought: bool) -> Result<Option<usize>, Memory> {
         let mode = number_mode(&mut self.modes, &literal.mode)?;
         let name = literal.atom.copy()?;
         let (place, new) = self.atoms.insert_full(Atom {
@@ -97,8 +110,39 @@ impl PairSet for AtomPairs {
         if !new {
             return Ok(None);
         }
+        let alloc = *self.atoms.allocator();
+        note(&mut self.stems, alloc, literal, mode, place, likely_sought);
         Ok(Some(place))
     }
+}
+
+/// Notes where the pair of a literal stands that has no mode, where it is likely sought, its atom ends in a number and there is room.
+#[inline(always)]
+fn note(
+    stems: &mut Stems,
+    alloc: Global,
+    literal: &Literal,
+    mode: u32,
+    place: usize,
+    likely_sought: bool,
+)
+    ensures { (a : List ℕ) (n : ℕ) → Knows stems.new a n → ((a ≡ literal.now.atom) × (mode ≡ 0) × (n / 2 ≡ place) × ((n % 2 == 0) ≡ literal.now.positive)) ⊎ Knows stems.old a n }
+{
+    if likely_sought && mode == 0 && place < NOTED_LIMIT {
+        let number = noted(place, literal.positive);
+        stems.put(alloc, literal.atom.bytes(), number);
+    }
+}
+
+/// What is noted of a pair at a place.
+#[inline(always)]
+fn noted(place: usize, positive: bool) -> u32
+    requires { place < 2 ^ 31 - 1 }
+    ensures place { result / 2 ≡ place }
+    ensures sign { (result % 2 == 0) ≡ positive }
+    ensures low { result < 2 ^ 32 - 1 }
+{
+    2 * place as u32 + !positive as u32
 }
 
 /// The mode with a number: none for 0.

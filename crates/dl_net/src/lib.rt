@@ -44,6 +44,7 @@ mod row;
 mod rows;
 mod rule_lists;
 mod staged;
+mod stems;
 mod table;
 mod tables;
 mod take;

@@ -124,17 +124,17 @@ impl<P: PairSet> PairedNames<P> {
         ensures paired { IsPaired self.new.literals }
     {
         if likely_new {
-            return self.put_or_find(literal);
+            return self.put_or_find(literal, false);
         }
         match self.find(literal) {
             Some(number) => Ok(number),
-            None => self.put_or_find(literal),
+            None => self.put_or_find(literal, true),
         }
     }
 
     /// The number of a literal, as `number` gives it: put in, or else found.
     #[inline(always)]
-    fn put_or_find(&mut self, literal: &Literal) -> Result<usize, Memory>
+    fn put_or_find(&mut self, literal: &Literal, likely_sought: bool) -> Result<usize, Memory>
         ensures named { OnOk result (self.new.literals ≡ with_both self.old.literals literal.now) }
         ensures number { IfOk result (λ n. position (literal_eq literal.now) self.new.literals ≡ Some n) }
         ensures small { IfOk result (λ n. n < 2 ^ 32) }
@@ -144,7 +144,7 @@ impl<P: PairSet> PairedNames<P> {
         ensures paired { IsPaired self.new.literals }
     {
         let _len = self.len();
-        match self.put(literal)? {
+        match self.put(literal, likely_sought)? {
             Some(number) => Ok(number),
             None => match self.find(literal) {
                 Some(number) => Ok(number),
@@ -155,7 +155,7 @@ impl<P: PairSet> PairedNames<P> {
 
     /// Puts a literal in, beside its complement, and gives its number; `None` where it was there, or where no more can be numbered.
     #[inline(always)]
-    fn put(&mut self, literal: &Literal) -> Result<Option<usize>, Memory>
+    fn put(&mut self, literal: &Literal, likely_sought: bool) -> Result<Option<usize>, Memory>
         ensures absent { IfOk result (λ put. IfSome put (λ n. ¬ Contains self.old.literals literal.now)) }
         ensures added { IfOk result (λ put. IfSome put (λ n. self.new.literals ≡ self.old.literals ++ literal.now ∷ complement literal.now ∷ [])) }
         ensures number { IfOk result (λ put. IfSome put (λ n. n ≡ length self.old.literals)) }
@@ -166,7 +166,7 @@ impl<P: PairSet> PairedNames<P> {
         if self.pairs.len() >= PAIR_LIMIT {
             return Ok(None);
         }
-        match self.pairs.put(literal)? {
+        match self.pairs.put(literal, likely_sought)? {
             None => Ok(None),
             Some(place) => {
                 self.frozen = false;

@@ -37,8 +37,9 @@ pub(crate) trait PairSet: Drop {
         ensures sign { IfSome result (λ found. (q : Literal) × (slice_get (firsts self.now) found.0 ≡ Some q) × (found.1 ≡ q.positive)) }
         ensures absent { IfNone result (list_any (same_atom literal.now) (firsts self.now) ≡ false) };
 
-    /// Puts a literal in as the first of a new pair, and gives its place; `None` where there is a pair with its mode and its atom.
-    fn put(&mut self, literal: &Literal) -> Result<Option<usize>, Memory>
+    /// Puts a literal in as the first of a new pair, and gives its place; `None` where there is a pair with its mode and its atom. One that is
+    /// likely sought again may be noted, so that it is found faster: no clause tells of it.
+    fn put(&mut self, literal: &Literal, likely_sought: bool) -> Result<Option<usize>, Memory>
         ensures new { IfOk result (λ put. IfSome put (λ place. list_any (same_atom literal.now) (firsts self.old) ≡ false)) }
         ensures place { IfOk result (λ put. IfSome put (λ place. place ≡ length (firsts self.old))) }
         ensures added { IfOk result (λ put. IfSome put (λ place. firsts self.new ≡ firsts self.old ++ literal.now ∷ [])) }

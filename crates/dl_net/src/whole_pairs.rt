@@ -50,7 +50,7 @@ impl PairSet for WholePairs {
     }
 
     #[inline(always)]
-    fn put(&mut self, literal: &Literal) -> Result<Option<usize>, Memory> {
+    fn put(&mut self, literal: &Literal, _likely_sought: bool) -> Result<Option<usize>, Memory> {
         let (place, new) = self.set.insert_full(Both::of(literal)?)?;
         if new { Ok(Some(place)) } else { Ok(None) }
     }

@@ -1,4 +1,4 @@
-use Rattle.std.proofs.Common.{◌≡◌, ℕ, ◌≤◌, ◌++◌, ◌∷◌, [], List, map, length, refl, sym, ap, subst, ◌∙◌}
+use Rattle.std.proofs.Common.{◌≡◌, ℕ, ◌≤◌, ◌++◌, ◌∷◌, [], List, map, length, refl, sym, ap, subst, ◌∙◌, false, inl, inr}
 use Rattle.std.specs.Prelude.{All}
 use Rattle.std.specs.List.{list_any}
 use Rattle.std.proofs.lemmas.List.{length-map}
@@ -7,8 +7,10 @@ use Rattle.dl_base.specs.Paths.{IsDistinct}
 use Rattle.dl_lit.specs.declared.literal.Literal.{Literal}
 use Rattle.dl_net.specs.declared.atom.Atom.{Atom}
 use Rattle.dl_net.specs.Atoms.{first_of, mode_at, atom_eq}
+use Rattle.dl_net.specs.KeptAtoms.{Tells}
 use Rattle.dl_net.specs.Pairs.{same_atom}
 use Rattle.dl_net.proofs.AtomLemmas.{after_error, any_of_map, all_by_number, firsts_kept, firsts_put, first_put, modes_kept, key_added, key_there, key_place, not_true, not_false}
+use Rattle.dl_net.proofs.NotedLemmas.{told_new, told_more}
 use Rattle.dl_net.proofs.atom_pairs.AtomPairsPairSet.put.Goals as goal
 
 -- a pair with the mode and the atom of a literal is there by its numbers, or by its literals
@@ -64,14 +66,19 @@ invariant_of-self-2 c =
     let new : List (List ℕ) = c.number_mode.new.modes.keys in
     let atoms : List Atom = c.self.inside.atoms.keys in
     let a : Atom = record { name = c.in_ok-name.name; mode = c.in_ok-mode.mode; positive = c.args.literal.now.positive } in
+    let none : list_any (atom_eq a) atoms ≡ false = not_true (list_any (atom_eq a) atoms) (sym c.if-not-new.false ∙ c.in_ok-place.ensures.added) in
+    let added = sym (c.in_ok-place.ensures.keys ∙ key_added atom_eq atoms a none) in
     record {
       distinct = c.number_mode.ensures.distinct;
       few = c.number_mode.ensures.few;
-      modes = subst (λ (vs : List Atom). All (λ v. v.mode ≤ length new) vs)
-          (sym (c.in_ok-place.ensures.keys
-          ∙ key_added atom_eq atoms a (not_true (list_any (atom_eq a) atoms) (sym c.if-not-new.false ∙ c.in_ok-place.ensures.added))))
+      modes = subst (λ (vs : List Atom). All (λ v. v.mode ≤ length new) vs) added
           (All-push (λ v. v.mode ≤ length new) atoms a
           (modes_kept c.self.inside.modes.keys new atoms c.number_mode.ensures.grown c.self.invariant.modes) c.in_ok-mode.ensures.within);
+      once = c.in_ok-place.ensures.unique;
+      noted = λ name n knows. subst (λ (vs : List Atom). Tells vs name n) added (elim (c.note.ensures name n knows) [
+        | inl here ↦ told_new atoms a name n (here.2 ∙ c.in_ok-place.ensures.index ∙ key_place atom_eq atoms a none) here.1 (c.in_ok-name.ensures ∙ sym here.0) here.3
+        | inr was ↦ told_more atoms (a ∷ []) name n (c.self.invariant.noted name n was)
+      ]);
     }
 
 pub returns-clause-new : goal.returns-clause-new
