@@ -1,7 +1,7 @@
 -- Paths along a relation: sets that no step leaves, relations with fewer steps, steps carried over by a map, and one step more.
 use Rattle.std.proofs.Common.{◌≡◌, ◌∙◌, ◌⊎◌, List, [], ◌∷◌, ◌++◌, map, inl, inr, subst, sym, refl, ap, arith}
 use Rattle.std.specs.Prelude.{All, Contains}
-use Rattle.std.proofs.lemmas.List.Elements.{All-nil, All-cons, All-contains, Contains-append_left, Contains-append_right, Contains-get_or}
+use Rattle.std.proofs.lemmas.List.Elements.{All-nil, All-cons, All-contains, Contains-append_right, Contains-get_or}
 use Rattle.dl_base.specs.Paths.{IsDistinct, Descends, last_of, IsPath, HasCycle}
 use Rattle.dl_base.proofs.Distinct.{distinct_map, distinct_apart, distinct_turned}
 

@@ -11,7 +11,7 @@ use Rattle.dl_calls.specs.declared.reply.Reply.{Reply}
 use Rattle.dl_calls.specs.declared.reply.Reply.TheVariants.{Enrolled, Edited, EditRefused, Edition}
 use Rattle.dl_calls.specs.declared.entry.Entry.{Entry}
 use Rattle.dl_calls.specs.Reasoner.{State, IsStep, held}
-use Rattle.dl_calls.specs.Histories.{after, IsLegal, state_after}
+use Rattle.dl_calls.specs.Histories.{after, state_after}
 use Rattle.dl_calls.proofs.Runs.{legal_more, state_more}
 use Rattle.dl_board.specs.Boards.{BoardLists}
 use Rattle.dl_board.specs.Kept.{numbered, IsKept}

@@ -1,5 +1,5 @@
 -- What a call on a board answers and adds.
-use Rattle.std.specs.Prelude.{◌≡◌, ℕ, List, [], ◌∷◌, ◌++◌, Some, length, slice_get}
+use Rattle.std.specs.Prelude.{◌≡◌, ℕ, [], ◌∷◌, ◌++◌, Some, length, slice_get}
 use Rattle.dl_calls.specs.declared.call.Call.{Call}
 use Rattle.dl_calls.specs.declared.call.Call.TheVariants as call
 use Rattle.dl_calls.specs.declared.reply.Reply.{Reply}

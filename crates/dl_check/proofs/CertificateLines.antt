@@ -1,6 +1,6 @@
 -- Lines of a certificate, one after another.
-use Rattle.std.proofs.Common.{◌≡◌, ◌≢◌, ℕ, ◌+◌, ◌<◌, Bool, true, false, List, [], ◌∷◌, ◌++◌, length, inl, inr, ◌⊎◌, refl, sym, ap, subst, ◌∙◌, append_assoc, length-append, arith}
-use Rattle.std.specs.Prelude.{All, Contains, Ok, Err, Result, MatchResult, IfOk, IfErr, codes}
+use Rattle.std.proofs.Common.{◌≡◌, ℕ, ◌+◌, Bool, true, false, List, [], ◌∷◌, ◌++◌, length, inl, inr, ◌⊎◌, refl, sym, ap, subst, ◌∙◌, append_assoc, length-append, arith}
+use Rattle.std.specs.Prelude.{All, Contains, Ok, Err, Result, MatchResult, codes}
 use Rattle.std.specs.List.{AllZip}
 use Rattle.std.proofs.lemmas.List.Elements.{All-nil, All-cons, All-head, All-tail, All-contains, Contains-append_right, Contains-get_or}
 use Rattle.dl_lit.specs.declared.literal.Tagged.{Tagged}
@@ -9,9 +9,8 @@ use Rattle.dl_lit.specs.declared.literal.Family.TheVariants as family
 use Rattle.dl_theory.specs.declared.answer.Certificate.{Certificate}
 use Rattle.dl_theory.specs.declared.answer.Certificate.TheVariants.{Derivation, Gap}
 use Rattle.dl_print.specs.Text.{plus_byte, family_letter}
-use Rattle.dl_read.specs.declared.statement.LineStop.{LineStop}
 use Rattle.dl_read.specs.declared.statement.LineStop.TheVariants as line_stop
-use Rattle.dl_read.specs.Grammar.{has_variables, Reads}
+use Rattle.dl_read.specs.Grammar.{has_variables}
 use Rattle.dl_read.specs.Tagged.{IsTagged, IsBareTagged}
 use Rattle.dl_read.proofs.Unique.{spelled_plain}
 use Rattle.dl_check.specs.declared.flaw.CertStop.{CertStop}
@@ -19,7 +18,7 @@ use Rattle.dl_check.specs.declared.flaw.CertStop.TheVariants.{BadLine, Memory}
 use Rattle.dl_check.specs.declared.certificate.Heading.{Heading}
 use Rattle.dl_check.specs.declared.certificate.Heading.TheVariants as heading
 use Rattle.dl_check.specs.Headings.{heading_line, with_heading}
-use Rattle.dl_check.specs.Certificates.{IsCertificate, IsFirstLine, IsMemberLine, BeginCertificate, IsOutside, IsFirstBadLine, IsCertStop, IsMemberStop, IsOnlyMember, IsFirstBadMember, IsMembersStop, IsOnlyCertificate}
+use Rattle.dl_check.specs.Certificates.{IsCertificate, IsFirstLine, IsMemberLine, BeginCertificate, IsOutside, IsFirstBadLine, IsCertStop, IsMemberStop, IsOnlyMember, IsMembersStop, IsOnlyCertificate}
 
 -- a tagged literal has no `(`
 

@@ -1,5 +1,5 @@
 -- A list has at most one first flaw, and none where it is fine.
-use Rattle.std.proofs.Common.{◌≡◌, ◌≢◌, ℕ, ◌<◌, ◌≤◌, ◌+◌, Some, None, List, [], ◌∷◌, ◌++◌, length, take, drop, get_or, inl, inr, ◌⊎◌, refl, sym, subst, ap, ◌∙◌, arith}
+use Rattle.std.proofs.Common.{◌≡◌, ◌≢◌, ℕ, ◌<◌, ◌+◌, Some, List, [], ◌∷◌, ◌++◌, length, take, drop, get_or, inl, inr, ◌⊎◌, refl, sym, subst, ap, ◌∙◌, arith}
 use Rattle.std.specs.Prelude.{All, Contains, slice_get, Ok, Err, Result, MatchResult}
 use Rattle.std.proofs.lemmas.Bool.{cases_lt}
 use Rattle.std.proofs.lemmas.List.{take-take, get_or-take, drop_more, take-append-drop, length-take}
@@ -8,13 +8,13 @@ use Rattle.dl_lit.specs.declared.literal.Tagged.{Tagged}
 use Rattle.dl_base.specs.Paths.{IsDistinct}
 use Rattle.dl_theory.specs.Lists.{TheoryLists}
 use Rattle.dl_theory.specs.Conditions.{Meets}
-use Rattle.dl_theory.specs.Derivations.{Derives, IsDerivation, IsGap}
+use Rattle.dl_theory.specs.Derivations.{IsDerivation, IsGap}
 use Rattle.dl_theory.proofs.Steps.{derives_cut}
 use Rattle.dl_check.specs.declared.flaw.Flaw.{Flaw}
 use Rattle.dl_check.specs.declared.flaw.Flaw.TheVariants.{Empty, Repeat, Step}
 use Rattle.dl_check.specs.declared.flaw.CheckStop.{CheckStop}
 use Rattle.dl_check.specs.declared.flaw.CheckStop.TheVariants.{Rejected, Memory}
-use Rattle.dl_check.specs.Flaws.{IsFirstBad, IsFlaw, IsDerivationFlaw, IsMet, IsGapFlaw, AnswersDerivation, AnswersGap, IsOnlyFlaw}
+use Rattle.dl_check.specs.Flaws.{IsFlaw, IsDerivationFlaw, IsMet, IsGapFlaw, AnswersDerivation, AnswersGap, IsOnlyFlaw}
 
 -- a member before a place, in the list up to that place
 front_get : (list : List Tagged) (a b : ℕ) (x : Tagged) → a < b → slice_get list a ≡ Some x → slice_get (take b list) a ≡ Some x

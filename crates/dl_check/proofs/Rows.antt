@@ -1,5 +1,5 @@
 -- The conditions over the fields of a checker are those of the theory that it stands for.
-use Rattle.std.proofs.Common.{◌≡◌, ℕ, Bool, true, false, not, ◌&&◌, ◌||◌, List, [], ◌∷◌, map, refl, sym, ap, ◌∙◌}
+use Rattle.std.proofs.Common.{◌≡◌, ℕ, Bool, true, false, not, ◌&&◌, ◌||◌, List, sym, ap, ◌∙◌}
 use Rattle.std.specs.Prelude.{filter}
 use Rattle.std.specs.List.{list_any, list_all}
 use Rattle.std.specs.Set.{is_member}
@@ -10,7 +10,7 @@ use Rattle.std.proofs.lemmas.Bool.Decides.{same_from_decides, Decides-like}
 use Rattle.dl_lit.specs.declared.literal.Literal.{Literal}
 use Rattle.dl_lit.specs.declared.literal.Tagged.{Tagged}
 use Rattle.dl_lit.specs.declared.literal.Family.{Family}
-use Rattle.dl_lit.specs.declared.literal.Family.TheVariants.{Definite, Blocking, Propagating, Support}
+use Rattle.dl_lit.specs.declared.literal.Family.TheVariants.{Definite, Propagating, Support}
 use Rattle.dl_lit.specs.Literal.{literal_eq, tagged, complement}
 use Rattle.dl_theory.specs.declared.rule.Rule.{Rule}
 use Rattle.dl_theory.specs.declared.rule.Pair.{Pair}
@@ -23,7 +23,7 @@ use Rattle.dl_check.specs.declared.band.Kinds.TheVariants.{All, Supporting, Stri
 use Rattle.dl_check.specs.Bands.{is_in, on, not_off}
 use Rattle.dl_check.specs.Checking.{StandsFor, is_fact, row, above, some_in, HasLabels, is_beaten, some_unbeaten, definite, prevails, fails}
 use Rattle.dl_check.proofs.Shapes.{not_off_shape, answered_shape, team_shape, standing_shape, defeated_shape, threat_shape, supported_shape, unsupported_shape}
-use Rattle.dl_check.proofs.Quantified.{any_congr, all_congr, all_is, any_filter, any_map, and_any, any_swap, any_false, and_true, and_false, and_turned, and_assoc, or_assoc, or_false}
+use Rattle.dl_check.proofs.Quantified.{any_congr, all_is, any_filter, any_map, and_any, any_swap, any_false, and_true, and_false, and_turned, and_assoc, or_assoc, or_false}
 
 bytes_turned : (a b : List ℕ) → bytes_eq a b ≡ bytes_eq b a
 bytes_turned a b = same_from_decides (bytes_eq a b) (bytes_eq b a) (bytes_eq-Decides a b) (Decides-like (bytes_eq b a) sym sym (bytes_eq-Decides b a))

@@ -1,5 +1,5 @@
 -- What stands among members, and what a condition that is tested over them says.
-use Rattle.std.proofs.Common.{◌≡◌, Bool, true, false, not, ◌&&◌, List, map, refl, sym, ap, ◌∙◌}
+use Rattle.std.proofs.Common.{◌≡◌, Bool, not, ◌&&◌, List, sym, ap, ◌∙◌}
 use Rattle.std.specs.Prelude.{Contains, filter}
 use Rattle.std.specs.Bool.{Decides}
 use Rattle.std.specs.List.{list_any}

@@ -1,17 +1,14 @@
 -- One more member of a list that is checked, and what the whole list is then.
-use Rattle.std.proofs.Common.{◌≤◌, ◌==◌, Bool, false, true≢false, ◌≡◌, ◌≢◌, ℕ, ◌<◌, ◌+◌, Some, List, [], ◌∷◌, ◌++◌, length, take, get_or, sym, subst, ap, ◌∙◌, arith}
-use Rattle.std.specs.Prelude.{All, Contains, slice_get}
+use Rattle.std.proofs.Common.{◌≤◌, ◌==◌, Bool, false, true≢false, ◌≡◌, ◌≢◌, ℕ, ◌<◌, ◌+◌, List, [], ◌∷◌, ◌++◌, length, take, get_or, sym, ap, ◌∙◌}
+use Rattle.std.specs.Prelude.{Contains}
 use Rattle.std.proofs.lemmas.List.{take_more, take_all}
-use Rattle.std.proofs.lemmas.List.Elements.{All-push}
 use Rattle.std.proofs.lemmas.Option.{slice_get_read}
 use Rattle.dl_lit.specs.declared.literal.Tagged.{Tagged}
-use Rattle.dl_base.specs.Paths.{IsDistinct}
-use Rattle.dl_base.proofs.Distinct.{distinct_push}
 use Rattle.dl_theory.specs.Lists.{TheoryLists}
 use Rattle.dl_theory.specs.Conditions.{Meets}
-use Rattle.dl_theory.specs.Derivations.{IsDerivation, IsGap}
+use Rattle.dl_theory.specs.Derivations.{IsDerivation}
 use Rattle.dl_theory.proofs.Steps.{derives_join}
-use Rattle.dl_check.specs.Flaws.{IsFirstBad, IsMet}
+use Rattle.dl_check.specs.Flaws.{IsFirstBad}
 
 -- the list up to and with a member
 pub taken_more : (list : List Tagged) (at : ℕ) (x : Tagged) → at < length list → x ≡ get_or list at x → take (at + 1) list ≡ take at list ++ x ∷ []

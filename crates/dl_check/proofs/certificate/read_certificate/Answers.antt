@@ -1,4 +1,4 @@
-use Rattle.std.proofs.Common.{◌≡◌, List, ℕ, subst}
+use Rattle.std.proofs.Common.{List, ℕ, subst}
 use Rattle.std.specs.Prelude.{MatchResult}
 use Rattle.dl_read.specs.Files.{lines_of}
 use Rattle.dl_check.specs.Certificates.{IsOnlyCertificate, IsCertStop}

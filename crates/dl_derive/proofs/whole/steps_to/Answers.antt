@@ -1,13 +1,11 @@
 use Rattle.std.proofs.Common.{◌<◌, ◌≤◌, length, sym, subst}
-use Rattle.std.specs.Prelude.{Contains, IfOk}
-use Rattle.dl_lit.specs.declared.literal.Family.{Family}
+use Rattle.std.specs.Prelude.{IfOk}
 use Rattle.dl_lit.specs.Literal.{tagged}
 use Rattle.dl_theory.specs.Derivations.{Follows}
-use Rattle.dl_theory.specs.Verdicts.{needs, DerivesAt}
+use Rattle.dl_theory.specs.Verdicts.{DerivesAt}
 use Rattle.dl_marks.specs.Marks.{places}
 use Rattle.dl_net.specs.Numbers.{NetLists, literal_at}
 use Rattle.dl_fill.specs.Filled.{IsRight}
-use Rattle.dl_derive.specs.Back.{IsBack}
 use Rattle.dl_derive.proofs.Behind.{is_back_in_graph}
 use Rattle.dl_derive.proofs.whole.steps_to.Goals as goal
 

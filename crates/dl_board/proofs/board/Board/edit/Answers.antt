@@ -1,4 +1,4 @@
-use Rattle.std.proofs.Common.{◌≡◌, ◌∙◌, ℕ, ◌<◌, List, [], ◌∷◌, ◌++◌, ap, subst, sym}
+use Rattle.std.proofs.Common.{◌≡◌, ◌∙◌, ◌<◌, List, [], ◌∷◌, ◌++◌, ap, subst, sym}
 use Rattle.dl_theory.specs.declared.edit.EditStop.{EditStop}
 use Rattle.dl_theory.specs.Edits.{IsRefused, IsStopped}
 use Rattle.dl_calls.specs.declared.call.Call.TheVariants.{Edit}

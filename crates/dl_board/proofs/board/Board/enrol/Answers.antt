@@ -1,4 +1,4 @@
-use Rattle.std.proofs.Common.{◌≡◌, ◌∙◌, ℕ, ◌+◌, List, ap, subst, sym, refl, arith}
+use Rattle.std.proofs.Common.{◌≡◌, ◌+◌, List, subst, sym, refl, arith}
 use Rattle.dl_calls.specs.declared.entry.Entry.{Entry}
 use Rattle.dl_board.specs.Kept.{IsKept}
 use Rattle.dl_board.proofs.Keeping.{keeps_enrolled}

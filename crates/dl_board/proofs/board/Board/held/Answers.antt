@@ -1,6 +1,5 @@
-use Rattle.std.proofs.Common.{◌≡◌, ◌∙◌, ◌<◌, ℕ, List, length, get_or, sym, ap, subst, arith}
+use Rattle.std.proofs.Common.{◌≡◌, ◌<◌, length, sym, subst, arith}
 use Rattle.std.specs.Prelude.{Some, slice_get}
-use Rattle.dl_edition.specs.Editions.{EditionLists}
 use Rattle.dl_board.specs.Boards.{BoardLists}
 use Rattle.dl_board.proofs.Keeping.{state, edition_count}
 use Rattle.dl_board.proofs.Numbering.{held_number, held_theory, edition_at}

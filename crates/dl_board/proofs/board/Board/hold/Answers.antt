@@ -1,4 +1,4 @@
-use Rattle.std.proofs.Common.{◌≡◌, ◌∙◌, ℕ, ◌<◌, List, [], ◌∷◌, ◌++◌, length, ap, subst, sym}
+use Rattle.std.proofs.Common.{◌≡◌, ◌∙◌, ◌<◌, List, [], ◌∷◌, ◌++◌, length, ap, subst, sym}
 use Rattle.dl_calls.specs.declared.call.Call.TheVariants.{Hold}
 use Rattle.dl_calls.specs.declared.reply.Reply.{Reply}
 use Rattle.dl_calls.specs.declared.entry.Entry.{Entry}

@@ -2,7 +2,6 @@ use Rattle.std.proofs.Common.{◌≡◌, ◌∙◌, ℕ, ◌<◌, List, [], ◌�
 use Rattle.dl_calls.specs.declared.call.Call.TheVariants.{Publish}
 use Rattle.dl_calls.specs.declared.reply.Reply.TheVariants.{Edition}
 use Rattle.dl_calls.specs.declared.entry.Entry.{Entry}
-use Rattle.dl_calls.specs.Histories.{state_after}
 use Rattle.dl_edition.specs.Editions.{EditionLists}
 use Rattle.dl_board.specs.Boards.{BoardLists}
 use Rattle.dl_board.specs.Kept.{IsKept}

@@ -1,4 +1,4 @@
-use Rattle.std.proofs.Common.{◌≡◌, List, ◌∙◌, subst}
+use Rattle.std.proofs.Common.{List, ◌∙◌, subst}
 use Rattle.std.specs.Str.{bytes_eq}
 use Rattle.dl_lit.specs.Literal.{literal_eq}
 use Rattle.dl_theory.specs.declared.rule.Rule.{Rule}

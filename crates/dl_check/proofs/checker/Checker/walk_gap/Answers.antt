@@ -1,4 +1,4 @@
-use Rattle.std.proofs.Common.{◌≡◌, ◌≢◌, ℕ, ◌+◌, ◌<◌, List, [], ◌∷◌, ◌++◌, length, take, true, false, true≢false, sym, subst, ap, ◌∙◌, arith, refl}
+use Rattle.std.proofs.Common.{◌≡◌, ◌≢◌, ◌+◌, List, [], ◌∷◌, ◌++◌, take, true, false, true≢false, sym, subst, ◌∙◌, refl}
 use Rattle.std.specs.Prelude.{Contains, All}
 use Rattle.dl_lit.specs.declared.literal.Tagged.{Tagged}
 use Rattle.std.proofs.lemmas.List.Elements.{All-push}

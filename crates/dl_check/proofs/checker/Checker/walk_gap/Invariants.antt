@@ -1,8 +1,7 @@
-use Rattle.std.proofs.Common.{◌≡◌, take}
+use Rattle.std.proofs.Common.{take}
 use Rattle.std.specs.Prelude.{All}
 use Rattle.dl_base.specs.Paths.{IsDistinct}
 use Rattle.dl_theory.specs.Lists.{TheoryLists}
-use Rattle.dl_check.specs.declared.derived.Reading.TheVariants.{Outside}
 use Rattle.dl_check.specs.Derived.{HasMembers}
 use Rattle.dl_check.specs.Checking.{StandsFor}
 use Rattle.dl_check.specs.Flaws.{IsMet}

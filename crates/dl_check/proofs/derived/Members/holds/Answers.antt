@@ -1,4 +1,3 @@
-use Rattle.std.proofs.Common.{◌∙◌}
 use Rattle.std.proofs.lemmas.Bool.Decides.{Decides-at}
 use Rattle.dl_check.specs.Derived.{stands}
 use Rattle.dl_check.proofs.Standing.{stands_decides}

@@ -1,4 +1,4 @@
-use Rattle.std.proofs.Common.{◌≡◌, subst}
+use Rattle.std.proofs.Common.{subst}
 use Rattle.dl_theory.specs.Marks.{AreRight}
 use Rattle.dl_theory.proofs.Closure.{is_least_closed}
 use Rattle.dl_theory.proofs.Consistency.{is_consistent}
