@@ -1,37 +1,48 @@
 //! The conclusions of a theory.
 
-ghost use Rattle.std.specs.Prelude.{◌≡◌, ◌<◌, ◌≤◌, IfOk, length};
-ghost use Rattle.dl_marks.specs.Marks.{places};
-ghost use Rattle.dl_fill.specs.Filled.{IsRight};
+ghost use Rattle.std.specs.Prelude.{◌≡◌, ◌<◌, IfOk};
+ghost use Rattle.std.specs.Arc.{arc_value};
 ghost use Rattle.dl_edition.specs.Conclusions.{AreConclusions};
+ghost use Rattle.dl_update.specs.declared.families.Families.TheVariants as families_of;
+ghost use Rattle.dl_update.specs.RightIn.{AreRightIn};
 
 use dl_edition::Concluded;
 use dl_lit::{Family, Memory};
 use dl_marks::{Marks, Steps};
-use dl_net::{NumberedNet, NumberedTheory};
-use dl_update::family_marks;
+use dl_net::NumberedTheory;
+use dl_update::{Draft, FamilyNet};
 use std::alloc::Global;
 use std::marker::Brand;
 use std::sync::ledger::{Blank, Ledger};
 
-// The marks of a net in a family. What is counted belongs to a new ledger.
-fn marks_in<L: Ledger>(
+// The draft of a theory in a family. What is counted belongs to a new ledger.
+fn saturated<L: Ledger>(
     alloc: Global,
     family: Family,
-    net: &NumberedNet,
+    theory: NumberedTheory,
     blank: Blank,
-) -> Result<Marks, Memory>
+) -> Result<Draft<FamilyNet>, Memory>
     requires name { blank.name ≡ L.name }
     requires parts { blank.parts ≡ L.parts }
     requires some { 0 < blank.parts }
-    ensures room { IfOk result (λ marks. length net.now.names ≤ places marks) }
-    ensures right { IfOk result (λ marks. IsRight net.now marks family) }
+    ensures theory { IfOk result (λ draft. draft.theory ≡ theory.theory) }
+    ensures families { IfOk result (λ draft. draft.families ≡ families_of.One family) }
 {
     let mut steps = Steps::<L>::make(blank);
-    family_marks(alloc, &net.graph(), family, &mut steps)
+    Draft::<FamilyNet>::saturate_in(alloc, theory, family, &mut steps)
 }
 
-/// The conclusions of a theory in a family. `Memory` where there is none for its net, its marks or the order of its literals.
+// What a draft shares once it is frozen: its net, and marks that are right in its family.
+fn shared(draft: &mut Draft<FamilyNet>) -> Result<(FamilyNet, Marks), Memory>
+    ensures theory { IfOk result (λ shared. (arc_value shared.0.net).theory ≡ draft.old.theory) }
+    ensures family { IfOk result (λ shared. families_of.One shared.0.family ≡ draft.old.families) }
+    ensures right { IfOk result (λ shared. AreRightIn (families_of.One shared.0.family) (arc_value shared.0.net).theory (arc_value shared.0.net).names shared.1) }
+{
+    draft.freeze()?;
+    draft.share()
+}
+
+/// The conclusions of a theory in a family. `Memory` where there is none for its draft or for the order of its literals.
 pub fn conclusions(
     alloc: Global,
     family: Family,
@@ -39,7 +50,9 @@ pub fn conclusions(
 ) -> Result<Concluded, Memory>
     ensures { IfOk result (AreConclusions theory.theory family) }
 {
-    let net = NumberedNet::of(theory)?;
-    let marks = marks_in::<Brand>(alloc, family, &net, Blank::new(1))?;
-    Concluded::make(alloc, net, marks, family)
+    let mut draft = saturated::<Brand>(alloc, family, theory, Blank::new(1))?;
+    let shared = shared(&mut draft);
+    drop(draft);
+    let (net, marks) = shared?;
+    Concluded::make(alloc, net.net, marks, family)
 }

@@ -1,6 +1,7 @@
 //! The conclusions of a theory, without a list of them.
 
 ghost use Rattle.std.specs.Prelude.{◌≡◌, ◌<◌, ◌≤◌, IfOk, length, slice_index_or};
+ghost use Rattle.std.specs.Arc.{arc_value};
 ghost use Rattle.dl_lit.specs.Borrowed.{literal_of};
 ghost use Rattle.dl_marks.specs.Marks.{places};
 ghost use Rattle.dl_fill.specs.Filled.{IsRight};
@@ -15,11 +16,12 @@ use dl_net::NumberedNet;
 use dl_theory::Verdict;
 use std::alloc::Global;
 use std::marker::Model;
+use std::sync::Arc;
 
 /// A theory that is concluded in a family: its conclusions stand in order, and each is read off marks when it is asked for.
 #[derive(Drop)]
 pub struct Concluded {
-    net: NumberedNet,
+    net: Arc<NumberedNet>,
     marks: Marks,
     family: Family,
     /// The numbers of the literals that the theory mentions, in the order of the literals.
@@ -39,17 +41,17 @@ impl Model for Concluded {
 }
 
 impl Concluded {
-    /// The conclusions of a net's theory in a family in which the marks are right. `Memory` where there is none for the order of
+    /// The conclusions of a shared net's theory in a family in which the marks are right. `Memory` where there is none for the order of
     /// the literals.
     pub fn make(
         alloc: Global,
-        net: NumberedNet,
+        net: Arc<NumberedNet>,
         marks: Marks,
         family: Family,
     ) -> Result<Concluded, Memory>
-        requires room { length net.names ≤ places marks }
-        requires right { IsRight net marks family }
-        ensures { IfOk result (AreConclusions net.theory family) }
+        requires room { length (arc_value net).names ≤ places marks }
+        requires right { IsRight (arc_value net) marks family }
+        ensures { IfOk result (AreConclusions (arc_value net).theory family) }
     {
         let order = order_of(alloc, &net.graph())?;
         Ok(Concluded {

@@ -17,7 +17,7 @@ use Rattle.dl_theory.specs.Edits.{after_edit}
 use Rattle.dl_theory.specs.Lists.{TheoryLists}
 use Rattle.dl_theory.specs.Listings.{Mentions}
 use Rattle.dl_theory.specs.Derivations.{Follows}
-use Rattle.dl_theory.specs.Marks.{IsRightAt, AreRight}
+use Rattle.dl_theory.specs.Marks.{IsRightAt, IsFamilyRight, AreRight}
 use Rattle.dl_theory.proofs.Steps.{is_coherent}
 use Rattle.dl_theory.proofs.Unmentioned.{refuted}
 use Rattle.dl_marks.specs.Marks.{Marking, places, marked}
@@ -25,6 +25,9 @@ use Rattle.dl_net.specs.Named.{Grows}
 use Rattle.dl_net.specs.Numbers.{NetLists, IsNumbered, no_literal, number}
 use Rattle.dl_fill.specs.Before.{tag_of}
 use Rattle.dl_fill.specs.Filled.{stands}
+use Rattle.dl_update.specs.declared.families.Families.{Families}
+use Rattle.dl_update.specs.declared.families.Families.TheVariants.{All, One}
+use Rattle.dl_update.specs.RightIn.{AreRightIn}
 use Rattle.dl_update.specs.Unmarked.{IsFreshPast}
 
 -- no two numbers stand for one literal
@@ -95,15 +98,19 @@ module _ (T : TheoryLists) where
     ];
   }
 
-  -- marks that are the same are right
-  pub right_same : (names : List Literal) (old new : Marking) → AreRight T names (places old) (stands old) → places new ≡ places old
-      → ((t : Tag) (n : ℕ) → marked new t n ≡ marked old t n) → AreRight T names (places new) (stands new)
-  right_same names old new right len same = record {
+  -- marks that are the same are right in a family, and so in families
+  family_same : (names : List Literal) (old new : Marking) (f : Family) → IsFamilyRight T names (places old) (stands old) f → places new ≡ places old
+      → ((t : Tag) (n : ℕ) → marked new t n ≡ marked old t n) → IsFamilyRight T names (places new) (stands new) f
+  family_same names old new f right len same = λ plus n within.
+      subst (λ (b : Bool). Right plus f b (slice_get names n)) (sym (same (tag_of plus f) n)) (right plus n (omega (arith, within, len)))
+
+  right_same : (fs : Families) (names : List Literal) (old new : Marking) → AreRightIn fs T names old → places new ≡ places old
+      → ((t : Tag) (n : ℕ) → marked new t n ≡ marked old t n) → AreRightIn fs T names new
+  right_same All names old new right len same = record {
     room = omega (arith, right.room, len);
-    right = λ f plus n within.
-        subst (λ (b : Bool). Right plus f b (slice_get names n)) (sym (same (tag_of plus f) n))
-        (right.right f plus n (omega (arith, within, len)));
+    right = λ f. family_same names old new f (right.right f) len same;
   }
+  right_same (One f) names old new right len same = (omega (arith, right.0, len), family_same names old new f right.1 len same)
 
   module _ (P : Literal → Type 0) (old new : List Literal) (mentioned : (q : Literal) → Mentions T q → Contains old q) (distinct : IsDistinct new)
       (grows : Grows P old new) where
@@ -143,9 +150,10 @@ module _ (T : TheoryLists) where
       ];
     }
 
--- marks that are the same are right for an equal theory with equal names
-pub right_moved : (T T' : TheoryLists) (names names' : List Literal) (old new : Marking) → T' ≡ T → names' ≡ names → places new ≡ places old
-    → ((t : Tag) (n : ℕ) → marked new t n ≡ marked old t n) → AreRight T names (places old) (stands old) → AreRight T' names' (places new) (stands new)
-right_moved T T' names names' old new theory same_names len same right =
-    subst (λ (U : TheoryLists). AreRight U names' (places new) (stands new)) (sym theory)
-    (subst (λ (ls : List Literal). AreRight T ls (places new) (stands new)) (sym same_names) (right_same T names old new right len same))
+-- marks that are the same are right in equal families for an equal theory with equal names
+pub right_moved : (fs fs' : Families) (T T' : TheoryLists) (names names' : List Literal) (old new : Marking) → fs' ≡ fs → T' ≡ T → names' ≡ names
+    → places new ≡ places old → ((t : Tag) (n : ℕ) → marked new t n ≡ marked old t n) → AreRightIn fs T names old → AreRightIn fs' T' names' new
+right_moved fs fs' T T' names names' old new families theory same_names len same right =
+    subst (λ (gs : Families). AreRightIn gs T' names' new) (sym families)
+    (subst (λ (U : TheoryLists). AreRightIn fs U names' new) (sym theory)
+    (subst (λ (ls : List Literal). AreRightIn fs T ls new) (sym same_names) (right_same T fs names old new right len same)))

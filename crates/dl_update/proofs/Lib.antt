@@ -1,5 +1,5 @@
-mod Families
+mod EachFamily
 mod Growth
-mod Kept
 mod News
+mod Room
 mod Whole

@@ -1,14 +1,16 @@
--- A theory under edits, as callers see it, and the literals that an edit is the first to name.
+-- A draft as callers see it, and the literals that an edit is the first to name.
 use Rattle.std.specs.Prelude.{Bool, List, Contains, ℕ, ◌≤◌, length}
 use Rattle.dl_base.specs.Paths.{IsDistinct}
 use Rattle.dl_lit.specs.declared.literal.Literal.{Literal}
 use Rattle.dl_theory.specs.Lists.{TheoryLists}
 use Rattle.dl_net.specs.Named.{IsNear, Grows}
+use Rattle.dl_update.specs.declared.families.Families.{Families}
 
--- a theory, its literals by number, and whether the draft can be shared
+-- a theory, its literals by number, the families whose marks are kept, and whether the draft can be shared
 pub record DraftLists : Type 0 where
   pub theory : TheoryLists
   pub names : List Literal
+  pub families : Families
   pub frozen : Bool
 
 -- a literal of qs, or the complement of one, that is not known

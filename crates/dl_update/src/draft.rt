@@ -1,51 +1,124 @@
-//! A theory under edits, with the marks of all that follows.
+//! A theory with the marks of what follows, which can be shared, and under edits.
 
 ghost use Rattle.std.specs.Prelude.{◌≡◌, IfErr, IfOk, OnErr, OnOk, IsTrue, false};
 ghost use Rattle.dl_theory.specs.Edits.{IsAccepted, IsStopped, after_edit};
+ghost use Rattle.dl_theory.specs.Lists.{IsWellFormed};
 ghost use Rattle.dl_theory.specs.Laws.{IsCoherent, IsConsistent, IsInclusive, IsLeastClosed};
-ghost use Rattle.dl_theory.specs.Marks.{AreRight};
-ghost use Rattle.dl_marks.specs.Marks.{places, IsFrozen};
-ghost use Rattle.dl_fill.specs.Filled.{stands};
+ghost use Rattle.dl_marks.specs.Marks.{IsFrozen};
 ghost use Rattle.dl_net.specs.Edited.{edit_literals};
 ghost use Rattle.dl_net.specs.Named.{IsNear, Grows};
+ghost use Rattle.dl_update.specs.declared.families.Families.TheVariants as families_of;
+ghost use Rattle.dl_update.specs.RightIn.{AreRightIn};
 
+use crate::draft_net::DraftNet;
+use crate::family_net::FamilyNet;
 use crate::places::grow;
-use crate::saturate::{all_marks, fill_all};
+use crate::saturate::{fill_all, marks_in};
 use crate::unmarked::{clear_names, everywhere, own_names};
 use crate::works::Works;
 use dl_base::Memory;
+use dl_lit::Family;
 use dl_marks::{Marks, Steps};
-use dl_net::Net;
+use dl_net::{Net, NumberedTheory};
 use dl_theory::{Edit, EditStop, Theory};
 use std::alloc::Global;
 use std::marker::Model;
 use std::sync::ledger::Ledger;
 
-/// A theory under edits, whose net and marks are kept: a mark stands exactly where its tagged literal follows.
+/// A theory by numbers and its marks: in each family that is kept, a mark stands exactly where its tagged literal follows. A draft over a
+/// `Net` keeps all families and takes edits; one over a `FamilyNet` keeps one family, and no statement but by numbers.
 #[derive(Drop)]
-pub struct Draft {
+pub struct Draft<N: DraftNet = Net> {
     alloc: Global,
-    net: Net,
+    net: N,
     marks: Marks,
+    /// Room for the fills after an edit.
     works: Works,
     /// Whether the net and the marks can be shared.
     frozen: bool,
 }
 
-impl Model for Draft {
+impl<N: DraftNet> Model for Draft<N> {
     ghost use Rattle.dl_update.specs.Drafts.{DraftLists};
 
     ghost Value = { DraftLists };
 
     ghost use Rattle.dl_update.specs.KeptDraft.{draft_of, IsKeptDraft};
 
-    ghost view = { draft_of };
+    ghost view = { draft_of N.lists N.families };
 
-    ghost invariant = { IsKeptDraft };
+    ghost invariant = { IsKeptDraft N.lists N.families };
 }
 
-impl Draft {
-    /// The draft of an equal theory. `Memory` where there is none for it.
+impl<N: DraftNet> Draft<N> {
+    /// The draft of a net. `Memory` where there is none for its marks.
+    fn of<L: Ledger>(alloc: Global, net: N, steps: &mut Steps<L>) -> Result<Draft<N>, Memory>
+        ensures theory { IfOk result (λ draft. draft.theory ≡ (N.lists net).theory) }
+        ensures families { IfOk result (λ draft. draft.families ≡ N.families net) }
+        ensures frozen { IfOk result (λ draft. draft.frozen ≡ false) }
+        ensures formed { OnOk result (IsWellFormed (N.lists net).theory) }
+    {
+        let _names = net.graph().names();
+        let mut works = Works::make(alloc);
+        let marks = marks_in(alloc, &net.graph(), net.families(), &mut works, steps)?;
+        Ok(Draft {
+            alloc,
+            net,
+            marks,
+            works,
+            frozen: false,
+        })
+    }
+
+    /// From here on the draft can be shared, up to the next edit. `Memory` where there is none for that.
+    pub fn freeze(&mut self) -> Result<(), Memory>
+        ensures theory { self.new.theory ≡ self.old.theory }
+        ensures names { self.new.names ≡ self.old.names }
+        ensures families { self.new.families ≡ self.old.families }
+        ensures frozen { OnOk result (IsTrue self.new.frozen) }
+    {
+        self.frozen = false;
+        self.net.freeze()?;
+        self.marks.freeze()?;
+        self.frozen = true;
+        Ok(())
+    }
+
+    /// The net of the theory and its marks once more, which do not change with the draft. `Memory` where there is none for
+    /// them.
+    pub fn share(&self) -> Result<(N, Marks), Memory>
+        requires { IsTrue self.now.frozen }
+        ensures theory { IfOk result (λ shared. (N.lists shared.0).theory ≡ self.now.theory) }
+        ensures names { IfOk result (λ shared. (N.lists shared.0).names ≡ self.now.names) }
+        ensures families { IfOk result (λ shared. N.families shared.0 ≡ self.now.families) }
+        ensures frozen { IfOk result (λ shared. IsTrue (N.lists shared.0).frozen) }
+        ensures right { IfOk result (λ shared. AreRightIn (N.families shared.0) self.now.theory self.now.names shared.1) }
+        ensures unowned { IfOk result (λ shared. IsFrozen shared.1) }
+    {
+        let net = self.net.share()?;
+        let marks = self.marks.share()?;
+        Ok((net, marks))
+    }
+
+    /// The net of the theory, which tells the families that are kept.
+    pub fn net(&self) -> &N
+        ensures theory { (N.lists result.now).theory ≡ self.now.theory }
+        ensures names { (N.lists result.now).names ≡ self.now.names }
+        ensures families { N.families result.now ≡ self.now.families }
+    {
+        &self.net
+    }
+
+    /// The marks of what follows from the theory in the families that are kept, with a place for each name.
+    pub fn marks(&self) -> &Marks
+        ensures { AreRightIn self.now.families self.now.theory self.now.names result.now }
+    {
+        &self.marks
+    }
+}
+
+impl Draft<Net> {
+    /// The draft of an equal theory, in all families. `Memory` where there is none for it.
     ///
     /// No tagged literal of the theory follows together with its opposite, and what follows is the least set that is closed
     /// under the conditions of proof. Literals that attack each other are both proved only where both are definite, and each
@@ -54,25 +127,18 @@ impl Draft {
         alloc: Global,
         theory: &Theory,
         steps: &mut Steps<L>,
-    ) -> Result<Draft, Memory>
+    ) -> Result<Draft<Net>, Memory>
         ensures theory { IfOk result (λ draft. draft.theory ≡ theory.now) }
+        ensures families { IfOk result (λ draft. draft.families ≡ families_of.All) }
         ensures frozen { IfOk result (λ draft. draft.frozen ≡ false) }
         ensures coherent { OnOk result (IsCoherent theory.now) }
         ensures least { OnOk result (IsLeastClosed theory.now) }
         ensures consistent { OnOk result (IsConsistent theory.now) }
         ensures inclusive { OnOk result (IsInclusive theory.now) }
     {
-        let _rules = theory.rules_len();
         let net = Net::of(alloc, theory.copy()?)?;
-        let mut works = Works::make(alloc);
-        let marks = all_marks(alloc, &net.graph(), &mut works, steps)?;
-        Ok(Draft {
-            alloc,
-            net,
-            marks,
-            works,
-            frozen: false,
-        })
+        let draft = Draft::of(alloc, net, steps)?;
+        Ok(draft)
     }
 
     /// Makes an edit, or says why it is refused. After a refusal, and after `Memory`, the draft stands for the same theory;
@@ -84,6 +150,7 @@ impl Draft {
         ensures stopped { IfErr result (IsStopped self.old.theory edit.now) }
         ensures kept { OnErr result (self.new.theory ≡ self.old.theory) }
         ensures names { Grows (IsNear (edit_literals edit.now)) self.old.names self.new.names }
+        ensures families { self.new.families ≡ self.old.families }
         ensures frozen { self.new.frozen ≡ false }
         ensures coherent { IsCoherent self.new.theory }
         ensures consistent { IsConsistent self.new.theory }
@@ -100,6 +167,7 @@ impl Draft {
         ensures stopped { IfErr result (IsStopped self.old.theory edit.now) }
         ensures kept { OnErr result (self.new.theory ≡ self.old.theory) }
         ensures names { Grows (IsNear (edit_literals edit.now)) self.old.names self.new.names }
+        ensures families { self.new.families ≡ self.old.families }
         ensures frozen { self.new.frozen ≡ false }
     {
         self.frozen = false;
@@ -122,47 +190,28 @@ impl Draft {
         );
         Ok(())
     }
+}
 
-    /// From here on the draft can be shared, up to the next edit. `Memory` where there is none for that.
-    pub fn freeze(&mut self) -> Result<(), Memory>
-        ensures theory { self.new.theory ≡ self.old.theory }
-        ensures names { self.new.names ≡ self.old.names }
-        ensures frozen { OnOk result (IsTrue self.new.frozen) }
+impl Draft<FamilyNet> {
+    /// The draft of a theory that was loaded by numbers, in one family. It takes no edits. `Memory` where there is none for it.
+    ///
+    /// The laws of what follows hold of the theory, as where all families are kept.
+    pub fn saturate_in<L: Ledger>(
+        alloc: Global,
+        theory: NumberedTheory,
+        family: Family,
+        steps: &mut Steps<L>,
+    ) -> Result<Draft<FamilyNet>, Memory>
+        ensures theory { IfOk result (λ draft. draft.theory ≡ theory.theory) }
+        ensures families { IfOk result (λ draft. draft.families ≡ families_of.One family) }
+        ensures frozen { IfOk result (λ draft. draft.frozen ≡ false) }
+        ensures coherent { OnOk result (IsCoherent theory.theory) }
+        ensures least { OnOk result (IsLeastClosed theory.theory) }
+        ensures consistent { OnOk result (IsConsistent theory.theory) }
+        ensures inclusive { OnOk result (IsInclusive theory.theory) }
     {
-        self.frozen = false;
-        self.net.freeze()?;
-        self.marks.freeze()?;
-        self.frozen = true;
-        Ok(())
-    }
-
-    /// The net of the theory and its marks once more, which do not change with the draft. `Memory` where there is none for
-    /// them.
-    pub fn share(&self) -> Result<(Net, Marks), Memory>
-        requires { IsTrue self.now.frozen }
-        ensures theory { IfOk result (λ shared. shared.0.theory ≡ self.now.theory) }
-        ensures names { IfOk result (λ shared. shared.0.names ≡ self.now.names) }
-        ensures frozen { IfOk result (λ shared. IsTrue shared.0.frozen) }
-        ensures right { IfOk result (λ shared. AreRight self.now.theory self.now.names (places shared.1) (stands shared.1)) }
-        ensures unowned { IfOk result (λ shared. IsFrozen shared.1) }
-    {
-        let net = self.net.share()?;
-        let marks = self.marks.share()?;
-        Ok((net, marks))
-    }
-
-    /// The net of the theory.
-    pub fn net(&self) -> &Net
-        ensures theory { result.now.theory ≡ self.now.theory }
-        ensures names { result.now.names ≡ self.now.names }
-    {
-        &self.net
-    }
-
-    /// The marks of all that follows from the theory, with a place for each name.
-    pub fn marks(&self) -> &Marks
-        ensures { AreRight self.now.theory self.now.names (places result.now) (stands result.now) }
-    {
-        &self.marks
+        let net = FamilyNet::of(alloc, theory, family)?;
+        let draft = Draft::of(alloc, net, steps)?;
+        Ok(draft)
     }
 }

@@ -6,9 +6,11 @@ ghost use Rattle.dl_theory.specs.Marks.{AreRight};
 ghost use Rattle.dl_marks.specs.Marks.{places};
 ghost use Rattle.dl_fill.specs.Filled.{IsReady, IsFilled, IsRight, stands};
 ghost use Rattle.dl_prop.specs.Propagation.{IsOfPair};
+ghost use Rattle.dl_update.specs.RightIn.{AreRightIn};
 ghost use Rattle.dl_update.specs.Room.{HasRoom};
 ghost use Rattle.dl_update.specs.Unmarked.{IsUnmarked, IsWhole};
 
+use crate::families::Families;
 use crate::unmarked::{everywhere, no_marks};
 use crate::works::Works;
 use dl_base::Memory;
@@ -80,7 +82,7 @@ fn fill_pair<L: Ledger>(
 
 /// Marks that are right in a family, with a place for each name. Only the families that it needs are filled. `Memory`
 /// where there is none for the marks or for the fills.
-pub fn family_marks<L: Ledger>(
+fn family_marks<L: Ledger>(
     alloc: Global,
     net: &Graph<'_>,
     family: Family,
@@ -121,7 +123,7 @@ pub fn fill_all<L: Ledger>(
 
 /// Marks that are right in all families, with a place for each name. `Memory` where there is none for the marks or for
 /// the fills.
-pub fn all_marks<L: Ledger>(
+fn all_marks<L: Ledger>(
     alloc: Global,
     net: &Graph<'_>,
     works: &mut Works,
@@ -135,4 +137,20 @@ pub fn all_marks<L: Ledger>(
     works.reserve(net.rules_len(), names)?;
     fill_all(net, &region, works, &mut marks, steps);
     Ok(marks)
+}
+
+/// Marks that are right in these families, with a place for each name. `Memory` where there is none for the marks or for the fills.
+pub fn marks_in<L: Ledger>(
+    alloc: Global,
+    net: &Graph<'_>,
+    families: Families,
+    works: &mut Works,
+    steps: &mut Steps<L>,
+) -> Result<Marks, Memory>
+    ensures { IfOk result (AreRightIn families net.now.theory net.now.names) }
+{
+    match families {
+        Families::All => all_marks(alloc, net, works, steps),
+        Families::One(family) => family_marks(alloc, net, family, steps),
+    }
 }

@@ -2,15 +2,15 @@
 
 ghost use Rattle.std.specs.Prelude.{◌≡◌, ◌<◌};
 
-use crate::trials::texts::{AMBIGUOUS, PENGUIN, edit_of, tagged_of, theory_of};
+use crate::trials::texts::{AMBIGUOUS, PENGUIN, edit_of, numbered_of, tagged_of, theory_of};
 use dl_edition::Held;
 use dl_io::{MemorySink, write_all};
 use dl_lit::{Family, LiteralRef, Memory, Tag};
 use dl_marks::{Marks, Steps};
-use dl_net::Net;
+use dl_net::Graph;
 use dl_print::write_conclusion;
 use dl_theory::{EditRefusal, EditStop, Theory};
-use dl_update::{Draft, family_marks};
+use dl_update::{Draft, DraftNet, FamilyNet};
 use std::alloc::Global;
 use std::marker::Brand;
 use std::process::Abort;
@@ -246,7 +246,7 @@ fn what_is_concluded_follows_each_edit(rt: HostRuntime) {
 }
 
 /// Asks for a mark of a tagged literal, and that its opposite has none.
-fn expect_mark(rt: &impl Abort, alloc: Global, net: &Net, marks: &Marks, text: &str) {
+fn expect_mark(rt: &impl Abort, alloc: Global, net: &Graph<'_>, marks: &Marks, text: &str) {
     let tagged = tagged_of(rt, alloc, text);
     let number = net.find(&tagged.literal).expect(rt, "a number");
     assert!(rt; number < marks.len());
@@ -263,24 +263,24 @@ fn expect_mark(rt: &impl Abort, alloc: Global, net: &Net, marks: &Marks, text: &
     assert!(rt; minus != tagged.plus, "another minus mark");
 }
 
-fn expect_marks(rt: &impl Abort, alloc: Global, net: &Net, marks: &Marks, texts: &[&str]) {
+fn expect_marks(rt: &impl Abort, alloc: Global, net: &Graph<'_>, marks: &Marks, texts: &[&str]) {
     for text in texts {
         expect_mark(rt, alloc, net, marks, text);
     }
 }
 
-/// The marks of a family, beside the others and filled alone.
-fn expect_family<L: Ledger>(
-    rt: &impl Abort,
-    alloc: Global,
-    draft: &Draft,
-    marked: &Marked,
-    steps: &mut Steps<L>,
-) {
+/// The marks of a draft of one family, and of what it shares.
+fn expect_alone<L: Ledger>(rt: &impl Abort, alloc: Global, marked: &Marked, steps: &mut Steps<L>) {
     let (family, texts) = marked;
-    expect_marks(rt, alloc, draft.net(), draft.marks(), texts);
-    let alone = family_marks(alloc, &draft.net().graph(), *family, steps).expect(rt, "room");
-    expect_marks(rt, alloc, draft.net(), &alone, texts);
+    let theory = numbered_of(rt, alloc, AMBIGUOUS);
+    let mut draft = Draft::<FamilyNet>::saturate_in(alloc, theory, *family, steps).expect(
+        rt, "room",
+    );
+    expect_marks(rt, alloc, &draft.net().graph(), draft.marks(), texts);
+    draft.freeze().expect(rt, "room");
+    let (net, marks) = draft.share().expect(rt, "room");
+    drop(draft);
+    expect_marks(rt, alloc, &net.graph(), &marks, texts);
 }
 
 fn mark_ambiguous<L: Ledger>(rt: &impl Abort, alloc: Global, blank: Blank)
@@ -292,7 +292,9 @@ fn mark_ambiguous<L: Ledger>(rt: &impl Abort, alloc: Global, blank: Blank)
     let theory = theory_of(rt, alloc, AMBIGUOUS);
     let draft = saturated(rt, alloc, &theory, &mut steps);
     for marked in AMBIGUOUS_MARKS.iter() {
-        expect_family(rt, alloc, &draft, marked, &mut steps);
+        let (_, texts) = marked;
+        expect_marks(rt, alloc, &draft.net().graph(), draft.marks(), texts);
+        expect_alone(rt, alloc, marked, &mut steps);
     }
     drop(draft);
 }

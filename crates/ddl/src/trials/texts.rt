@@ -1,7 +1,8 @@
 //! Theories that several trials use, and what is read from text.
 
 use dl_lit::{Literal, Tagged};
-use dl_read::{read_edit, read_file, read_literal, read_tagged};
+use dl_net::NumberedTheory;
+use dl_read::{read_edit, read_file, read_into, read_literal, read_tagged};
 use dl_theory::{Edit, Theory};
 use std::alloc::Global;
 use std::process::Abort;
@@ -13,8 +14,17 @@ pub(crate) const PENGUIN: &str =
 /// Rules for `p` and for `-p` that meet, one for `q`, and one from `p` for `-q`.
 pub(crate) const AMBIGUOUS: &str = "r1: => p\nr2: => -p\nr3: => q\nr4: p => -q\n";
 
+/// The theory that a text says.
 pub(crate) fn theory_of(rt: &impl Abort, alloc: Global, text: &str) -> Theory {
     match read_file(alloc, text.as_bytes()) {
+        Ok(theory) => theory,
+        Err(_) => panic!(rt; "no theory"),
+    }
+}
+
+/// The same, by numbers alone.
+pub(crate) fn numbered_of(rt: &impl Abort, alloc: Global, text: &str) -> NumberedTheory {
+    match read_into(alloc, NumberedTheory::make(alloc), text.as_bytes()) {
         Ok(theory) => theory,
         Err(_) => panic!(rt; "no theory"),
     }

@@ -1,4 +1,4 @@
 use Rattle.ddl.proofs.conclusion.conclusions.Given as goal
 
-abbrev pub ghosts-marks_in : goal.ghosts-marks_in
-ghosts-marks_in a = record { name = a.blank.name; parts = a.blank.parts }
+abbrev pub ghosts-saturated : goal.ghosts-saturated
+ghosts-saturated a = record { name = a.blank.name; parts = a.blank.parts }

@@ -5,7 +5,7 @@ use Rattle.dl_net.specs.Region.{Numbers}
 use Rattle.dl_marks.specs.Marks.{Marking}
 use Rattle.dl_fill.specs.Filled.{IsRight}
 use Rattle.dl_prop.specs.Propagation.{IsOfPair}
-use Rattle.dl_update.proofs.Families.{each_family, apart_definite, apart_blocking}
+use Rattle.dl_update.proofs.EachFamily.{each_family, apart_definite, apart_blocking}
 use Rattle.dl_update.proofs.Whole.{unmarked_ready, still_ready, still_right}
 use Rattle.dl_update.proofs.saturate.fill_all.Goals as goal
 

@@ -3,7 +3,7 @@ use Rattle.dl_lit.specs.declared.literal.Tag.{Tag}
 use Rattle.dl_marks.specs.Marks.{marked}
 use Rattle.dl_marks.proofs.MarkLemmas.{written_here, written_otherwise, written_elsewhere}
 use Rattle.dl_fill.specs.Before.{tag_of}
-use Rattle.dl_update.proofs.Families.{each_sign}
+use Rattle.dl_update.proofs.EachFamily.{each_sign}
 use Rattle.dl_update.proofs.unmarked.clear_family.Goals as goal
 
 pub returns-clause-cleared : goal.returns-clause-cleared

@@ -2,7 +2,7 @@ use Rattle.std.proofs.Common.{◌≡◌, Bool, false}
 use Rattle.dl_lit.specs.declared.literal.Family.TheVariants.{Definite, Blocking, Propagating}
 use Rattle.dl_marks.specs.Marks.{marked}
 use Rattle.dl_fill.specs.Before.{tag_of}
-use Rattle.dl_update.proofs.Families.{each_family}
+use Rattle.dl_update.proofs.EachFamily.{each_family}
 use Rattle.dl_update.proofs.unmarked.clear_number.Goals as goal
 
 pub returns-clause-cleared : goal.returns-clause-cleared

@@ -2,17 +2,25 @@ use Rattle.dl_update.proofs.Growth.{right_moved}
 use Rattle.dl_update.proofs.draft.Draft.freeze.Goals as goal
 
 pub invariant_of-self-in_err-freeze-2 : goal.invariant_of-self-in_err-freeze-2
-invariant_of-self-in_err-freeze-2 c = record {
-  right = right_moved c.self.inside.net.theory c.freeze.new.self.theory c.self.inside.net.names c.freeze.new.self.names c.self.inside.marks c.freeze-2.new.self
-      c.freeze.ensures.theory c.freeze.ensures.names c.freeze-2.ensures.len c.freeze-2.ensures.same c.self.invariant.right;
-  net_frozen = λ e. absurd cc;
-  marks_frozen = λ e. absurd cc;
-}
+invariant_of-self-in_err-freeze-2 g c =
+    let old = g.N.DraftNet.lists c.self.inside.net in
+    let new = g.N.DraftNet.lists c.freeze.new.self in
+    record {
+      right = right_moved (g.N.DraftNet.families c.self.inside.net) (g.N.DraftNet.families c.freeze.new.self) old.theory new.theory old.names new.names
+          c.self.inside.marks c.freeze-2.new.self c.freeze.ensures.families c.freeze.ensures.theory c.freeze.ensures.names c.freeze-2.ensures.len
+          c.freeze-2.ensures.same c.self.invariant.right;
+      net_frozen = λ e. absurd cc;
+      marks_frozen = λ e. absurd cc;
+    }
 
 pub invariant_of-self-2 : goal.invariant_of-self-2
-invariant_of-self-2 c = record {
-  right = right_moved c.self.inside.net.theory c.freeze.new.self.theory c.self.inside.net.names c.freeze.new.self.names c.self.inside.marks c.freeze-2.new.self
-      c.freeze.ensures.theory c.freeze.ensures.names c.freeze-2.ensures.len c.freeze-2.ensures.same c.self.invariant.right;
-  net_frozen = λ e. c.in_ok-freeze.ensures.frozen;
-  marks_frozen = λ e. c.in_ok-freeze-2.ensures.frozen;
-}
+invariant_of-self-2 g c =
+    let old = g.N.DraftNet.lists c.self.inside.net in
+    let new = g.N.DraftNet.lists c.freeze.new.self in
+    record {
+      right = right_moved (g.N.DraftNet.families c.self.inside.net) (g.N.DraftNet.families c.freeze.new.self) old.theory new.theory old.names new.names
+          c.self.inside.marks c.freeze-2.new.self c.freeze.ensures.families c.freeze.ensures.theory c.freeze.ensures.names c.freeze-2.ensures.len
+          c.freeze-2.ensures.same c.self.invariant.right;
+      net_frozen = λ e. c.in_ok-freeze.ensures.frozen;
+      marks_frozen = λ e. c.in_ok-freeze-2.ensures.frozen;
+    }

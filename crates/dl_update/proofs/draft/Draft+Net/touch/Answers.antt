@@ -8,7 +8,7 @@ use Rattle.dl_theory.proofs.Inclusions.{is_inclusive}
 use Rattle.dl_theory.proofs.Steps.{is_coherent}
 use Rattle.dl_theory.proofs.WellFormed.{edit_keeps}
 use Rattle.dl_update.specs.Drafts.{DraftLists}
-use Rattle.dl_update.proofs.draft.Draft.touch.Goals as goal
+use Rattle.dl_update.proofs.draft.Draft+Net.touch.Goals as goal
 
 -- whether the edit was made or not
 formed_after : {E : Type 0} (r : Result (Unit {0}) E) (old new : TheoryLists) (e : Edit) → IsWellFormed old → OnOk r (IsAccepted old e)

@@ -6,12 +6,13 @@ use Rattle.dl_theory.specs.Marks.{AreRight}
 use Rattle.dl_theory.specs.Lists.{TheoryLists}
 use Rattle.dl_marks.specs.Marks.{places}
 use Rattle.dl_fill.specs.Filled.{stands}
+use Rattle.dl_update.specs.declared.families.Families.TheVariants.{All}
 use Rattle.dl_update.specs.Drafts.{GrowsBy}
 use Rattle.dl_update.specs.Room.{HasRoom}
 use Rattle.dl_update.specs.Unmarked.{IsFreshPast, IsUnmarked, IsWhole}
 use Rattle.dl_update.proofs.Growth.{names_distinct, more_rules, right_moved, right_past}
-use Rattle.dl_update.proofs.Kept.{less_room}
-use Rattle.dl_update.proofs.draft.Draft.change.Goals as goal
+use Rattle.dl_update.proofs.Room.{less_room}
+use Rattle.dl_update.proofs.draft.Draft+Net.change.Goals as goal
 
 pub invariant_of-self-in_err-ready : goal.invariant_of-self-in_err-ready
 invariant_of-self-in_err-ready g c =
@@ -19,7 +20,7 @@ invariant_of-self-in_err-ready g c =
     let by : GrowsBy (edit_literals c.args.edit.now) c.self.inside.net.names N.names =
     (names_distinct N c.names-names.ensures.numbered, c.prepare-prepared.ensures.names) in
     record {
-      right = right_moved c.self.inside.net.theory N.theory N.names N.names c.grow.new.marks c.grow.new.marks c.prepare-prepared.ensures.theory refl
+      right = right_moved All All c.self.inside.net.theory N.theory N.names N.names c.grow.new.marks c.grow.new.marks refl c.prepare-prepared.ensures.theory refl
           refl (λ t n. refl) (c.in_ok-count.ensures.ready N.names by);
       net_frozen = λ e. absurd cc;
       marks_frozen = λ e. absurd cc;
@@ -31,7 +32,7 @@ invariant_of-self-in_err-region g c =
     let by : GrowsBy (edit_literals c.args.edit.now) c.self.inside.net.names N.names =
     (names_distinct N c.names-names.ensures.numbered, c.prepare-prepared.ensures.names) in
     record {
-      right = right_moved c.self.inside.net.theory N.theory N.names N.names c.grow.new.marks c.grow.new.marks c.prepare-prepared.ensures.theory refl
+      right = right_moved All All c.self.inside.net.theory N.theory N.names N.names c.grow.new.marks c.grow.new.marks refl c.prepare-prepared.ensures.theory refl
           refl (λ t n. refl) (c.in_ok-count.ensures.ready N.names by);
       net_frozen = λ e. absurd cc;
       marks_frozen = λ e. absurd cc;
@@ -50,7 +51,7 @@ invariant_of-self-in_err-own_names g c =
     let by : GrowsBy (edit_literals c.args.edit.now) c.self.inside.net.names N.names =
     (names_distinct N c.names-names.ensures.numbered, c.prepare-prepared.ensures.names) in
     record {
-      right = right_moved c.self.inside.net.theory N.theory N.names N.names c.grow.new.marks c.own_names.new.marks c.prepare-prepared.ensures.theory refl
+      right = right_moved All All c.self.inside.net.theory N.theory N.names N.names c.grow.new.marks c.own_names.new.marks refl c.prepare-prepared.ensures.theory refl
           c.own_names.ensures.places c.own_names.ensures.same (c.in_ok-count.ensures.ready N.names by);
       net_frozen = λ e. absurd cc;
       marks_frozen = λ e. absurd cc;
@@ -63,7 +64,7 @@ clear_names-requires-clause-past g c =
     (names_distinct N c.names-names.ensures.numbered, c.prepare-prepared.ensures.names) in
     let T : TheoryLists = c.self.inside.net.theory in
     let right : AreRight T N.names (places c.own_names.new.marks) (stands c.own_names.new.marks) =
-    right_moved T T N.names N.names c.grow.new.marks c.own_names.new.marks refl refl c.own_names.ensures.places c.own_names.ensures.same
+    right_moved All All T T N.names N.names c.grow.new.marks c.own_names.new.marks refl refl refl c.own_names.ensures.places c.own_names.ensures.same
     (c.in_ok-count.ensures.ready N.names by) in
     subst (λ (k : ℕ). IsFreshPast k c.own_names.new.marks) (sym c.names-names.ensures.len) (right_past T N.names c.own_names.new.marks right)
 

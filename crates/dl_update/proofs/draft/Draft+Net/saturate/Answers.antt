@@ -1,0 +1,23 @@
+use Rattle.std.proofs.Common.{subst, ◌∙◌}
+use Rattle.dl_theory.specs.Lists.{IsWellFormed}
+use Rattle.dl_theory.proofs.Closure.{is_least_closed}
+use Rattle.dl_theory.proofs.Consistency.{is_consistent}
+use Rattle.dl_theory.proofs.Inclusions.{is_inclusive}
+use Rattle.dl_theory.proofs.Steps.{is_coherent}
+use Rattle.dl_update.proofs.draft.Draft+Net.saturate.Goals as goal
+
+pub returns-clause-coherent : goal.returns-clause-coherent
+returns-clause-coherent g c = is_coherent c.args.theory.now
+
+pub returns-clause-least : goal.returns-clause-least
+returns-clause-least g c = is_least_closed c.args.theory.now
+
+pub returns-clause-consistent : goal.returns-clause-consistent
+returns-clause-consistent g c =
+    let formed : IsWellFormed c.args.theory.now = subst IsWellFormed (c.in_ok-net.ensures.theory ∙ c.in_ok-copy.ensures) c.in_ok-draft.ensures.formed in
+    is_consistent c.args.theory.now formed.acyclic
+
+pub returns-clause-inclusive : goal.returns-clause-inclusive
+returns-clause-inclusive g c =
+    let formed : IsWellFormed c.args.theory.now = subst IsWellFormed (c.in_ok-net.ensures.theory ∙ c.in_ok-copy.ensures) c.in_ok-draft.ensures.formed in
+    is_inclusive c.args.theory.now formed.acyclic
