@@ -183,6 +183,7 @@ impl Index {
 
     /// A rule goes below another, in the room that the index was made with. `Memory` where there is none, and then none stands below
     /// another.
+    #[tactic(auto, using(crate::proofs::OrderLemmas::order_still))]
     pub fn append_link(&mut self, upper: usize, lower: usize) -> Result<(), Memory>
         requires upper { upper < length self.old.lines }
         requires lower { lower < length self.old.lines }
@@ -192,8 +193,9 @@ impl Index {
         ensures numbers { self.new.numbers ≡ self.old.numbers }
     {
         self.room = Room::Nothing;
-        let upper = read(&self.order, upper);
-        let lower = read(&self.order, lower);
+        let places = self.places.len();
+        let upper = number_at(&self.order, places, upper);
+        let lower = number_at(&self.order, places, lower);
         match append_both(&mut self.lowers, &mut self.uppers, upper, lower) {
             Ok(()) => Ok(()),
             Err(Memory) => {
@@ -203,6 +205,22 @@ impl Index {
                 Err(Memory)
             }
         }
+    }
+
+    /// Whether one rule can go below another in the room that the index was made with, or need not since their heads do not attack each
+    /// other. No clause rests on the answer.
+    // without a branch on the heads: half of such branches are guessed wrong, and that is known only when the heads have come
+    #[tactic(auto, using(crate::proofs::OrderLemmas::order_still))]
+    #[inline(always)]
+    pub fn has_room(&self, upper: usize, lower: usize) -> bool
+        requires upper { upper < length self.now.lines }
+        requires lower { lower < length self.now.lines }
+    {
+        let places = self.places.len();
+        let upper = number_at(&self.order, places, upper);
+        let lower = number_at(&self.order, places, lower);
+        let room = self.lowers.has_room(upper) & self.uppers.has_room(lower);
+        room | !self.lines.meet(upper, lower)
     }
 
     /// The rule for which there is memory goes below the other.

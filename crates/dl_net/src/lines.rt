@@ -6,6 +6,7 @@ ghost use Rattle.dl_net.specs.Lines.{no_line, line_at};
 
 use crate::body::BodyNumbers;
 use crate::entry::Entry;
+use crate::load::other;
 use crate::table::Table;
 use dl_base::Memory;
 use dl_theory::Kind;
@@ -95,6 +96,15 @@ impl Lines {
         ensures { result ≡ (line_at self.now.items rule).head }
     {
         *self.heads.at(rule)
+    }
+
+    /// Whether the head of one rule is attacked by that of another.
+    #[inline(always)]
+    pub fn meet(&self, upper: usize, lower: usize) -> bool
+        requires upper { upper < length self.now.items }
+        requires lower { lower < length self.now.items }
+    {
+        self.head(lower) as usize == other(self.head(upper) as usize)
     }
 
     /// The numbers of the body in its order, with repeats.

@@ -1,7 +1,6 @@
 //! How many rules stand below and above each rule.
 
 use crate::lines::Lines;
-use crate::load::other;
 use crate::rule_lists::count_one;
 use dl_base::Memory;
 use dl_theory::RulePairs;
@@ -37,7 +36,7 @@ impl LinkCounts {
         if upper >= lines.len() || lower >= lines.len() {
             return;
         }
-        if lines.head(lower) as usize == other(lines.head(upper) as usize) {
+        if lines.meet(upper, lower) {
             count_one(&mut self.lowers, upper);
             count_one(&mut self.uppers, lower);
         }

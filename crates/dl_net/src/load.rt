@@ -19,6 +19,7 @@ use crate::names::PairedNames;
 use crate::number::number_rule;
 use crate::pair_set::PairSet;
 use crate::region::Region;
+use crate::rule_lists::BLOCK;
 use crate::whole_pairs::WholePairs;
 use dl_base::Memory;
 use dl_theory::{Rule, RulePairs, Theory};
@@ -147,12 +148,31 @@ pub(crate) fn load_pairs<P: PairSet>(
     ensures uppers { OnOk result ((T : TheoryLists) → AreRules T names.now.literals index.old.lines → ArePairs T pairs.now → index.old.uppers ≡ map (λ _. []) T.rules → index.new.uppers ≡ uppers_by T T.pairs) }
 {
     for at in 0..pairs.len() {
+        if at % BLOCK == 0 && !have_room(index, pairs, at) {
+            return Err(Memory);
+        }
         match pairs.rules_of(at) {
             None => unreachable!(),
             Some((upper, lower)) => load_pair(index, names, upper, lower)?,
         }
     }
     Ok(())
+}
+
+/// Whether the lists of the next pairs have room. Pairs that are entered one by one would wait for memory one by one, as rules would
+/// (`RuleLists::have_room`): to look at many heads and lists before anything is written makes them come together. Where pairs stand in
+/// random order that more than halves the time of entering them.
+fn have_room(index: &Index, pairs: &RulePairs, from: usize) -> bool
+    requires { HavePlaces (length index.now.lines) pairs.now }
+{
+    let end = usize::min(from.saturating_add(BLOCK), pairs.len());
+    let mut all = true;
+    for at in from..end {
+        if let Some((upper, lower)) = pairs.rules_of(at) {
+            all &= index.has_room(upper, lower);
+        }
+    }
+    all
 }
 
 /// The rules of a pair, below and above each other where their heads attack each other.

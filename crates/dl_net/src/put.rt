@@ -136,17 +136,20 @@ pub(crate) fn put_rule(
 pub(crate) fn append_both(
     lowers: &mut RowTable,
     uppers: &mut RowTable,
-    upper: u32,
-    lower: u32,
+    upper: usize,
+    lower: usize,
 ) -> Result<(), Memory>
     ensures lowers_wide { OnOk result (upper < length lowers.old.lists) }
     ensures uppers_wide { OnOk result (lower < length uppers.old.lists) }
     ensures lowers { OnOk result (lowers.new.lists ≡ set lowers.old.lists upper (list_at lowers.old upper ++ lower ∷ [])) }
     ensures uppers { OnOk result (uppers.new.lists ≡ set uppers.old.lists lower (list_at uppers.old lower ++ upper ∷ [])) }
 {
-    if upper as usize >= lowers.len() || lower as usize >= uppers.len() {
+    if upper >= lowers.len() || lower >= uppers.len() {
         return Err(Memory);
     }
-    lowers.append(upper as usize, lower)?;
-    uppers.append(lower as usize, upper)
+    if usize::max(upper, lower) > u32::MAX as usize {
+        return Err(Memory);
+    }
+    lowers.append(upper, lower as u32)?;
+    uppers.append(lower, upper as u32)
 }

@@ -13,8 +13,8 @@ use crate::table::Table;
 use dl_base::Memory;
 use std::alloc::Global;
 
-/// So many rules are looked at before they are entered.
-const BLOCK: usize = 32;
+/// So many rules, or pairs of rules, are looked at before they are entered.
+pub(crate) const BLOCK: usize = 32;
 
 /// The order and the places of rules, and those with each head and with each literal in the body.
 #[derive(Drop)]

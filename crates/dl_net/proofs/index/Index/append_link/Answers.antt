@@ -22,9 +22,9 @@ invariant_of-self c =
     record {
       rules = c.self.invariant.rules;
       links = HasLinks-put (length c.self.inside.lines.items) order c.self.inside.lowers c.self.inside.uppers c.append_both.new.lowers c.append_both.new.uppers
-          c.read-upper.result c.read-lower.result c.self.invariant.links c.self.invariant.rules.within
-          (read_member order c.args.upper c.read-upper.result c.read-upper.ensures (omega (arith, len, c.requires.upper)))
-          (read_member order c.args.lower c.read-lower.result c.read-lower.ensures (omega (arith, len, c.requires.lower)))
+          c.number_at-upper.result c.number_at-lower.result c.self.invariant.links c.self.invariant.rules.within
+          (read_member order c.args.upper c.number_at-upper.result c.number_at-upper.ensures (omega (arith, len, c.requires.upper)))
+          (read_member order c.args.lower c.number_at-lower.result c.number_at-lower.ensures (omega (arith, len, c.requires.lower)))
           (record { within = c.in-Ok.ensures.lowers_wide; lists = c.in-Ok.ensures.lowers })
           (record { within = c.in-Ok.ensures.uppers_wide; lists = c.in-Ok.ensures.uppers });
       room = tt;
@@ -37,11 +37,11 @@ returns-in-Ok-clause-lowers c =
     let len = order_length c.self.inside c.args.self.now c.self.view_is in
     let upper : c.args.upper < length order = omega (arith, len, c.requires.upper) in
     let lower : c.args.lower < length order = omega (arith, len, c.requires.lower) in
-    put_by_place order places c.self.inside.lowers c.append_both.new.lowers c.read-upper.result c.read-lower.result c.args.upper c.args.lower
-    c.self.invariant.rules.placed (read_member order c.args.upper c.read-upper.result c.read-upper.ensures upper)
+    put_by_place order places c.self.inside.lowers c.append_both.new.lowers c.number_at-upper.result c.number_at-lower.result c.args.upper c.args.lower
+    c.self.invariant.rules.placed (read_member order c.args.upper c.number_at-upper.result c.number_at-upper.ensures upper)
     (record { within = c.in-Ok.ensures.lowers_wide; lists = c.in-Ok.ensures.lowers })
-    (ap (place_in places) c.read-upper.ensures ∙ c.self.invariant.rules.placed c.args.upper upper)
-    (ap (place_in places) c.read-lower.ensures ∙ c.self.invariant.rules.placed c.args.lower lower)
+    (ap (place_in places) c.number_at-upper.ensures ∙ c.self.invariant.rules.placed c.args.upper upper)
+    (ap (place_in places) c.number_at-lower.ensures ∙ c.self.invariant.rules.placed c.args.lower lower)
     ∙ ap (λ (v : IndexLists). set v.lowers c.args.upper (list_of v.lowers c.args.upper ++ c.args.lower ∷ [])) c.self.view_is
 
 pub returns-in-Ok-clause-uppers : goal.returns-in-Ok-clause-uppers
@@ -51,9 +51,9 @@ returns-in-Ok-clause-uppers c =
     let len = order_length c.self.inside c.args.self.now c.self.view_is in
     let upper : c.args.upper < length order = omega (arith, len, c.requires.upper) in
     let lower : c.args.lower < length order = omega (arith, len, c.requires.lower) in
-    put_by_place order places c.self.inside.uppers c.append_both.new.uppers c.read-lower.result c.read-upper.result c.args.lower c.args.upper
-    c.self.invariant.rules.placed (read_member order c.args.lower c.read-lower.result c.read-lower.ensures lower)
+    put_by_place order places c.self.inside.uppers c.append_both.new.uppers c.number_at-lower.result c.number_at-upper.result c.args.lower c.args.upper
+    c.self.invariant.rules.placed (read_member order c.args.lower c.number_at-lower.result c.number_at-lower.ensures lower)
     (record { within = c.in-Ok.ensures.uppers_wide; lists = c.in-Ok.ensures.uppers })
-    (ap (place_in places) c.read-lower.ensures ∙ c.self.invariant.rules.placed c.args.lower lower)
-    (ap (place_in places) c.read-upper.ensures ∙ c.self.invariant.rules.placed c.args.upper upper)
+    (ap (place_in places) c.number_at-lower.ensures ∙ c.self.invariant.rules.placed c.args.lower lower)
+    (ap (place_in places) c.number_at-upper.ensures ∙ c.self.invariant.rules.placed c.args.upper upper)
     ∙ ap (λ (v : IndexLists). set v.uppers c.args.lower (list_of v.uppers c.args.lower ++ c.args.upper ∷ [])) c.self.view_is
