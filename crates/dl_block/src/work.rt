@@ -14,11 +14,16 @@ pub const WIDTH: usize = 8;
 pub const LITERALS: usize = 4;
 
 /// Counters for a fill of the defeasible family, with room for so many rules and names. A fill takes no memory.
-#[derive(Drop)]
 pub struct BlockWork {
     alloc: Global,
     pub(crate) places: usize,
     pub(crate) parts: Parts,
+}
+
+impl Drop for BlockWork {
+    fn drop(self) {
+        let BlockWork { alloc: _, places: _, parts: _ } = self;
+    }
 }
 
 impl Model for BlockWork {

@@ -17,7 +17,6 @@ use std::marker::Model;
 use std::sync::ledger::{Book, Ledger, Share};
 
 /// A draft, editions and a history. The board keeps the book of a ledger, whose total is how many seats are enrolled.
-#[derive(Drop)]
 pub struct Board<L: Ledger> {
     /// The theory that the history begins from.
     pub(crate) start: Theory,
@@ -26,6 +25,12 @@ pub struct Board<L: Ledger> {
     pub(crate) entries: Vec<Entry>,
     pub(crate) count: u64,
     pub(crate) book: Book<L>,
+}
+
+impl<L: Ledger> Drop for Board<L> {
+    fn drop(self) {
+        let Board { start: _, draft: _, editions: _, entries: _, count: _, book: _ } = self;
+    }
 }
 
 impl<L: Ledger> Model for Board<L> {

@@ -23,7 +23,6 @@ use indexmap::IndexSet;
 use std::alloc::Global;
 
 /// What the conditions look up in a theory, each found by its key.
-#[derive(Drop)]
 pub struct Checker {
     pub(crate) alloc: Global,
     pub(crate) facts: IndexSet<Literal>,
@@ -31,6 +30,12 @@ pub struct Checker {
     pub(crate) rules: Groups<Literal, Rule>,
     /// For each label the labels that are superior to it.
     pub(crate) above: Groups<Name, Name>,
+}
+
+impl Drop for Checker {
+    fn drop(self) {
+        let Checker { alloc: _, facts: _, rules: _, above: _ } = self;
+    }
 }
 
 impl Checker {

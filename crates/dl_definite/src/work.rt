@@ -14,11 +14,16 @@ pub const WIDTH: usize = 4;
 pub const LITERALS: usize = 2;
 
 /// Counters for a fill of the definite family, with room for so many rules and names. A fill takes no memory.
-#[derive(Drop)]
 pub struct DefiniteWork {
     alloc: Global,
     pub(crate) places: usize,
     pub(crate) parts: Parts,
+}
+
+impl Drop for DefiniteWork {
+    fn drop(self) {
+        let DefiniteWork { alloc: _, places: _, parts: _ } = self;
+    }
 }
 
 impl Model for DefiniteWork {

@@ -19,13 +19,18 @@ use std::marker::Model;
 use std::sync::Arc;
 
 /// A theory that is concluded in a family: its conclusions stand in order, and each is read off marks when it is asked for.
-#[derive(Drop)]
 pub struct Concluded {
     net: Arc<NumberedNet>,
     marks: Marks,
     family: Family,
     /// The numbers of the literals that the theory mentions, in the order of the literals.
     order: Vec<usize>,
+}
+
+impl Drop for Concluded {
+    fn drop(self) {
+        let Concluded { net: _, marks: _, family: _, order: _ } = self;
+    }
 }
 
 impl Model for Concluded {

@@ -24,9 +24,14 @@ pub struct Conclusion {
 }
 
 /// Conclusions in order.
-#[derive(Drop)]
 pub struct Conclusions {
     items: Vec<Conclusion>,
+}
+
+impl Drop for Conclusions {
+    fn drop(self) {
+        let Conclusions { items: _ } = self;
+    }
 }
 
 impl Model for Conclusions {

@@ -26,13 +26,18 @@ use std::alloc::Global;
 use std::marker::Model;
 
 /// A frozen net, marks that are right for it, and the order of its literals.
-#[derive(Drop)]
 pub(crate) struct Edition {
     net: Net,
     marks: Marks,
     /// The numbers of the literals that the theory mentions, in the order of the literals. It is made once, so that no list
     /// of conclusions sorts.
     order: Vec<usize>,
+}
+
+impl Drop for Edition {
+    fn drop(self) {
+        let Edition { net: _, marks: _, order: _ } = self;
+    }
 }
 
 impl Model for Edition {

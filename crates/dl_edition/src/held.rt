@@ -24,10 +24,15 @@ use std::marker::Model;
 use std::sync::Arc;
 
 /// One of those who share an edition. It stands for the edition's theory for good.
-#[derive(Drop)]
 pub struct Held {
     number: u64,
     edition: Arc<Edition>,
+}
+
+impl Drop for Held {
+    fn drop(self) {
+        let Held { number: _, edition: _ } = self;
+    }
 }
 
 impl Model for Held {

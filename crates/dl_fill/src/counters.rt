@@ -24,12 +24,17 @@ pub(crate) const BLOCK: usize = 64;
 
 /// How many hits each node still waits for, and the nodes that wait no more, in order. A node takes four bytes, and four more of a
 /// queue whose room is taken before, and touched only as far as nodes fire.
-#[derive(Drop)]
 pub struct Counters {
     /// By node, whether it stands in the queue, and how many hits it still waits for: none where it stands there.
     cells: Cells,
     /// The nodes of the queue, in order. There is always room for one more.
     queue: Vec<u32>,
+}
+
+impl Drop for Counters {
+    fn drop(self) {
+        let Counters { cells: _, queue: _ } = self;
+    }
 }
 
 impl Model for Counters {

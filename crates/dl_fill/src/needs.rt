@@ -20,10 +20,15 @@ pub enum Need {
 }
 
 /// What each node still asks, and whether one asked since the last look.
-#[derive(Drop)]
 pub struct Needs {
     needs: Vec<Need>,
     asked: bool,
+}
+
+impl Drop for Needs {
+    fn drop(self) {
+        let Needs { needs: _, asked: _ } = self;
+    }
 }
 
 impl Model for Needs {

@@ -20,9 +20,14 @@ pub enum NameStop {
 }
 
 /// A letter or `_`, and then letters, `_` and digits.
-#[derive(Drop)]
 pub struct Name {
     text: Text,
+}
+
+impl Drop for Name {
+    fn drop(self) {
+        let Name { text: _ } = self;
+    }
 }
 
 impl Model for Name {

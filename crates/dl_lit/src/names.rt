@@ -14,10 +14,15 @@ use std::alloc::Global;
 use std::marker::Model;
 
 /// Distinct literals, whose places are their numbers.
-#[derive(Drop)]
 pub struct Names {
     literals: IndexSet<Literal>,
     frozen: bool,
+}
+
+impl Drop for Names {
+    fn drop(self) {
+        let Names { literals: _, frozen: _ } = self;
+    }
 }
 
 impl Model for Names {

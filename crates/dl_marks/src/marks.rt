@@ -11,12 +11,17 @@ use std::marker::Model;
 use std::sync::ledger::Ledger;
 
 /// Which tags stand at which numbers.
-#[derive(Drop)]
 pub struct Marks {
     /// The marks of each number.
     bytes: Vec<u8>,
     /// Whether the marks may be written.
     owned: bool,
+}
+
+impl Drop for Marks {
+    fn drop(self) {
+        let Marks { bytes: _, owned: _ } = self;
+    }
 }
 
 impl Model for Marks {

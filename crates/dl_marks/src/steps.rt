@@ -6,10 +6,15 @@ use std::marker::Model;
 use std::sync::ledger::{Blank, Book, Ledger, Share};
 
 /// How many steps were made: marks set, marks cleared, and eight for each new number. Only `Marks` makes steps.
-#[derive(Drop)]
 pub struct Steps<L: Ledger> {
     book: Book<L>,
     share: Share<L>,
+}
+
+impl<L: Ledger> Drop for Steps<L> {
+    fn drop(self) {
+        let Steps { book: _, share: _ } = self;
+    }
 }
 
 impl<L: Ledger> Model for Steps<L> {

@@ -28,7 +28,6 @@ use std::marker::Model;
 /// A theory whose literals and rules have numbers, with its indexes.
 ///
 /// A literal's number stays; literal and complement stand beside each other. A rule's number is its place in the list.
-#[derive(Drop)]
 pub struct Net {
     pub(crate) staged: Staged,
     pub(crate) names: PairedNames<WholePairs>,
@@ -36,6 +35,12 @@ pub struct Net {
     pub(crate) facts: Table<bool>,
     pub(crate) index: Index,
     pub(crate) frozen: bool,
+}
+
+impl Drop for Net {
+    fn drop(self) {
+        let Net { staged: _, names: _, facts: _, index: _, frozen: _ } = self;
+    }
 }
 
 impl Model for Net {

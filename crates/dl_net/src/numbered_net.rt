@@ -17,7 +17,6 @@ use dl_theory::RulePairs;
 use std::marker::Model;
 
 /// A numbered theory of which it is known which rules stand above and below others. It changes no more.
-#[derive(Drop)]
 pub struct NumberedNet {
     /// The labels of the rules, by the number of the rule.
     labels: NameSet<Name>,
@@ -28,6 +27,12 @@ pub struct NumberedNet {
     /// By number, whether the literal is a fact.
     facts: Table<bool>,
     index: Index,
+}
+
+impl Drop for NumberedNet {
+    fn drop(self) {
+        let NumberedNet { labels: _, order: _, pairs: _, names: _, facts: _, index: _ } = self;
+    }
 }
 
 impl Model for NumberedNet {

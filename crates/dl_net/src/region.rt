@@ -8,13 +8,18 @@ use std::alloc::Global;
 use std::marker::Model;
 
 /// A set of numbers below a bound, in the order in which they came.
-#[derive(Drop)]
 pub struct Region {
     bound: usize,
     /// A bit for each number, which is set where the number is a member.
     words: Vec<u64>,
     /// The members, with room for all numbers. The bound has 32 bits, so that they take half of the memory.
     members: Vec<u32>,
+}
+
+impl Drop for Region {
+    fn drop(self) {
+        let Region { bound: _, words: _, members: _ } = self;
+    }
 }
 
 impl Model for Region {

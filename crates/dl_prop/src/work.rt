@@ -14,11 +14,16 @@ pub const WIDTH: usize = 14;
 pub const LITERALS: usize = 6;
 
 /// Counters for a fill of the families propagating and support, with room for so many rules and names. A fill takes no memory.
-#[derive(Drop)]
 pub struct PropWork {
     alloc: Global,
     pub(crate) places: usize,
     pub(crate) parts: Parts,
+}
+
+impl Drop for PropWork {
+    fn drop(self) {
+        let PropWork { alloc: _, places: _, parts: _ } = self;
+    }
 }
 
 impl Model for PropWork {

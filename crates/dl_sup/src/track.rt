@@ -8,9 +8,14 @@ use std::alloc::Global;
 use std::marker::Model;
 
 /// A path of items, each above the next.
-#[derive(Drop)]
 pub struct Track {
     pub(crate) items: Vec<usize>,
+}
+
+impl Drop for Track {
+    fn drop(self) {
+        let Track { items: _ } = self;
+    }
 }
 
 impl Model for Track {

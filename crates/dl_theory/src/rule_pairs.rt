@@ -21,9 +21,14 @@ use std::alloc::Global;
 use std::marker::Model;
 
 /// Pairs of rules by the places of their labels, distinct and without cycles: for whoever keeps the labels of the rules and drops none.
-#[derive(Drop)]
 pub struct RulePairs {
     links: Vec<Link>,
+}
+
+impl Drop for RulePairs {
+    fn drop(self) {
+        let RulePairs { links: _ } = self;
+    }
 }
 
 impl Model for RulePairs {

@@ -18,11 +18,16 @@ use std::marker::Model;
 pub const LIMIT: usize = 1_000_000;
 
 /// Facts, rules with distinct labels, and pairs of labels.
-#[derive(Drop)]
 pub struct Theory {
     facts: NameSet<Literal>,
     rules: Rules,
     pairs: Superiority,
+}
+
+impl Drop for Theory {
+    fn drop(self) {
+        let Theory { facts: _, rules: _, pairs: _ } = self;
+    }
 }
 
 impl Model for Theory {

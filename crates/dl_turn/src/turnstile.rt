@@ -22,9 +22,14 @@ type Place<B> = RuledArrayQueue<B, Known<B>, OneHistory>;
 /// One place for a board, which threads take and give back in turn. Contracts see which turnstile it is:
 /// a seat belongs to the turnstile whose `make` or `split` gave it, for good, and each call asks for a
 /// seat of its own turnstile.
-#[derive(Drop)]
 pub struct Turnstile<B: Chronicle> {
     place: Place<B>,
+}
+
+impl<B: Chronicle> Drop for Turnstile<B> {
+    fn drop(self) {
+        let Turnstile { place: _ } = self;
+    }
 }
 
 impl<B: Chronicle> Model for Turnstile<B> {

@@ -27,7 +27,6 @@ use std::sync::ledger::Ledger;
 
 /// A theory by numbers and its marks: in each family that is kept, a mark stands exactly where its tagged literal follows. A draft over a
 /// `Net` keeps all families and takes edits; one over a `FamilyNet` keeps one family, and no statement but by numbers.
-#[derive(Drop)]
 pub struct Draft<N: DraftNet = Net> {
     alloc: Global,
     net: N,
@@ -36,6 +35,12 @@ pub struct Draft<N: DraftNet = Net> {
     works: Works,
     /// Whether the net and the marks can be shared.
     frozen: bool,
+}
+
+impl<N: DraftNet> Drop for Draft<N> {
+    fn drop(self) {
+        let Draft { alloc: _, net: _, marks: _, works: _, frozen: _ } = self;
+    }
 }
 
 impl<N: DraftNet> Model for Draft<N> {
