@@ -1,4 +1,4 @@
--- Attacking literals are both proved only where both are definite, in a theory without cycles.
+-- In blocking and in propagating, attacking literals are both proved only where both are definite, in a theory without cycles.
 use Rattle.std.proofs.Common.{◌≡◌, ℕ, true, false, List, inl, inr, ◌⊎◌, sym, subst, ap, ◌∙◌, arith}
 use Rattle.std.specs.Prelude.{Any, Contains}
 use Rattle.std.proofs.lemmas.List.Elements.{All-contains}

@@ -126,8 +126,8 @@ impl Draft<Net> {
     /// The draft of an equal theory, in all families. `Memory` where there is none for it.
     ///
     /// No tagged literal of the theory follows together with its opposite, and what follows is the least set that is closed
-    /// under the conditions of proof. Literals that attack each other are both proved only where both are definite, and each
-    /// family includes the one before it.
+    /// under the conditions of proof. In blocking and in propagating, literals that attack each other are both proved only where both
+    /// are definite, and each family includes the one before it.
     pub fn saturate<L: Ledger>(
         alloc: Global,
         theory: &Theory,
