@@ -22,14 +22,16 @@ use Rattle.dl_theory.specs.declared.rule.Rule.{Rule}
 use Rattle.dl_theory.specs.declared.rule.Pair.{Pair}
 use Rattle.dl_theory.specs.Lists.{TheoryLists, labels}
 use Rattle.dl_theory.specs.Tests as test
-use Rattle.dl_net.specs.Counting.{times}
-use Rattle.dl_net.specs.Rows.{places_from}
+use Rattle.dl_rows.specs.Counting.{times}
+use Rattle.dl_rows.specs.Rows.{places_from}
 use Rattle.dl_net.specs.Numbers.{no_rule, mark_row, labelled}
-use Rattle.dl_net.specs.Above.{lower_step, upper_step, flip}
-use Rattle.dl_net.specs.Named.{IsPaired, HasLiterals, number_in, line_in}
-use Rattle.dl_net.specs.Lines.{Line, no_line, list_of, IsWithin}
-use Rattle.dl_net.proofs.NameLemmas.{number_at, number_within, paired_at}
-use Rattle.dl_net.proofs.LinkLemmas.{map_changed}
+use Rattle.dl_net.specs.Above.{lower_step, upper_step}
+use Rattle.dl_names.specs.Paired.{flip, IsPaired, number_in}
+use Rattle.dl_net.specs.Named.{HasLiterals, line_in}
+use Rattle.dl_net.specs.Lines.{Line, no_line, IsWithin}
+use Rattle.dl_rows.specs.Tables.{list_of}
+use Rattle.dl_names.proofs.NameLemmas.{number_at, number_within, paired_at}
+use Rattle.dl_rows.proofs.TableLemmas.{map_changed}
 
 -- ---- the heads of two rules, by number
 

@@ -18,17 +18,17 @@ use Rattle.dl_theory.specs.Lists.{TheoryLists, labels}
 use Rattle.dl_theory.specs.Edits.{after_edit}
 use Rattle.dl_theory.specs.Pairs.{pair_eq, pair_eq-Decides}
 use Rattle.dl_theory.specs.Tests as test
-use Rattle.dl_net.specs.Counting.{times}
-use Rattle.dl_net.specs.Rows.{places_from}
+use Rattle.dl_rows.specs.Counting.{times}
+use Rattle.dl_rows.specs.Rows.{places_from}
 use Rattle.dl_net.specs.Numbers.{no_rule, mark_row, labelled, lowers_row, uppers_row}
 use Rattle.dl_net.specs.Named.{line_in}
-use Rattle.dl_net.specs.Tables.{drop_item}
+use Rattle.dl_rows.specs.Tables.{drop_item, list_of}
 use Rattle.dl_net.specs.KeptNet.{HasIndex, numbered}
 use Rattle.dl_net.specs.Above.{lower_step, upper_step}
-use Rattle.dl_net.specs.Lines.{Line, IndexLists, list_of, place_without, list_without}
-use Rattle.dl_net.proofs.NumberLists.{alike, differ}
+use Rattle.dl_net.specs.Lines.{Line, IndexLists, place_without, list_without}
+use Rattle.dl_rows.proofs.NumberLists.{alike, differ}
 use Rattle.dl_net.proofs.AboveLemmas.{none_here, lower_here, lower_elsewhere, upper_here, upper_elsewhere}
-use Rattle.dl_net.proofs.LinkLemmas.{map_changed}
+use Rattle.dl_rows.proofs.TableLemmas.{map_changed}
 use Rattle.dl_net.proofs.TakeLemmas.{drop_idle}
 use Rattle.dl_net.proofs.RuleLemmas.{All-by_member}
 

@@ -8,11 +8,11 @@ use Rattle.std.proofs.lemmas.List.Elements.{All-head, All-tail, Contains-get_or}
 use Rattle.dl_lit.specs.declared.literal.Literal.{Literal}
 use Rattle.dl_lit.specs.Literal.{complement}
 use Rattle.dl_theory.specs.declared.rule.Rule.{Rule}
-use Rattle.dl_net.specs.Counting.{times}
-use Rattle.dl_net.specs.Rows.{places_from, places}
+use Rattle.dl_rows.specs.Counting.{times}
+use Rattle.dl_rows.specs.Rows.{places_from, places}
 use Rattle.dl_net.specs.Numbers.{NetLists, IsNumbered, no_literal, literal_at, number, number_of_other, opposes_row}
 use Rattle.dl_net.specs.Named.{head_row}
-use Rattle.dl_net.proofs.NameLemmas.{complement_twice}
+use Rattle.dl_names.proofs.NameLemmas.{complement_twice}
 use Rattle.dl_net.proofs.PlaceLemmas.{one, times_single}
 
 pub places_same : {X : Type 0} (f g : X → List ℕ) (q r : ℕ) (xs : List X) (k : ℕ) → All (λ x. times q (f x) ≡ times r (g x)) xs

@@ -23,16 +23,17 @@ use Rattle.dl_theory.specs.declared.edit.Edit.TheVariants.{AddRule, DropRule, Ad
 use Rattle.dl_theory.specs.Lists.{TheoryLists, labels}
 use Rattle.dl_theory.specs.Edits.{after_edit, HasLabel}
 use Rattle.dl_theory.specs.Tests as test
-use Rattle.dl_net.specs.Counting.{times}
-use Rattle.dl_net.specs.Rows.{places_from}
+use Rattle.dl_rows.specs.Counting.{times}
+use Rattle.dl_rows.specs.Rows.{places_from}
 use Rattle.dl_net.specs.Numbers.{no_literal, mark_row, labelled, lowers_row, uppers_row}
 use Rattle.dl_net.specs.Above.{lower_step, upper_step}
-use Rattle.dl_net.specs.Named.{HasFacts, Grows, number_in, line_in}
+use Rattle.dl_net.specs.Named.{HasFacts, line_in}
+use Rattle.dl_names.specs.Paired.{Grows, number_in}
 use Rattle.dl_net.specs.Lines.{Line, IndexLists, KeepsRules}
 use Rattle.dl_net.specs.Edited.{HasEditLiterals}
 use Rattle.dl_net.specs.Room.{meets, HasPairRoom, HasEditRoom}
 use Rattle.dl_net.specs.KeptNet.{HasIndex, HasTables, numbered}
-use Rattle.dl_net.proofs.NameLemmas.{number_at, number_within}
+use Rattle.dl_names.proofs.NameLemmas.{number_at, number_within}
 use Rattle.dl_net.proofs.AboveLemmas.{none_here, flat_map-push, labels_apart, label_at}
 use Rattle.dl_net.proofs.NetLemmas.{tables_grown, facts_after, rules_after}
 

@@ -11,10 +11,11 @@ use Rattle.dl_theory.proofs.WellFormed.{edit_keeps}
 use Rattle.dl_net.specs.declared.net.Net.TheInside.{Inside}
 use Rattle.dl_net.specs.Numbers.{NetLists, IsNumbered}
 use Rattle.dl_net.specs.Staged.{StagedLists}
-use Rattle.dl_net.specs.Listed.{Listed}
+use Rattle.dl_rows.specs.Listed.{Listed}
 use Rattle.dl_net.specs.Lines.{IndexLists}
 use Rattle.dl_net.specs.Above.{lower_step, upper_step}
-use Rattle.dl_net.specs.Named.{IsPaired, HasLiterals, line_in}
+use Rattle.dl_names.specs.Paired.{IsPaired}
+use Rattle.dl_net.specs.Named.{HasLiterals, line_in}
 use Rattle.dl_net.specs.Room.{HasEditRoom, HasPending}
 use Rattle.dl_net.specs.KeptNet.{net_of, theory_of, pending_of, numbered, HasTables, IsKeptNet}
 use Rattle.dl_net.proofs.NetLemmas.{mentioned_in, numbered_by, tables_by}

@@ -1,17 +1,12 @@
-pub mod TableLemmas
-pub mod Keeping
-pub mod NumberLists
+pub use Rattle.dl_names.proofs.NameLemmas
 pub mod PutLemmas
 pub mod OnceLemmas
 pub mod LineLemmas
 pub mod PlaceLemmas
 pub mod RuleLemmas
 pub mod LinkLemmas
-pub mod PackedLemmas
 pub mod OrderLemmas
 pub mod TakeLemmas
-pub mod NameLemmas
-pub mod PairLemmas
 pub mod PairRules
 pub mod AboveLemmas
 pub mod JoinLemmas
@@ -25,7 +20,3 @@ pub mod GraphLemmas
 pub mod NumberedLemmas
 pub mod OccursLemmas
 pub mod StagedLemmas
-mod RegionLemmas
-pub mod AtomLemmas
-pub mod StemLemmas
-pub mod NotedLemmas

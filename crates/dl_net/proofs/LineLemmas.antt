@@ -2,11 +2,11 @@
 use Rattle.std.proofs.Common.{◌≡◌, ℕ, zero, suc, ◌<◌, List, [], ◌∷◌, ◌++◌, length, map, get_or, set, refl, sym, ap, ◌∙◌, arith}
 use Rattle.dl_theory.specs.declared.rule.Kind.{Kind}
 use Rattle.dl_net.specs.declared.lines.Lines.TheInside.{Inside}
-use Rattle.dl_net.specs.Listed.{Listed}
-use Rattle.dl_net.specs.Tables.{RowLists, list_at}
+use Rattle.dl_rows.specs.Listed.{Listed}
+use Rattle.dl_rows.specs.Tables.{RowLists, list_at}
 use Rattle.dl_net.specs.Lines.{Line, line_at}
 use Rattle.dl_net.specs.Indexes.{by_place, place_in}
-use Rattle.dl_net.proofs.TableLemmas.{none_mapped}
+use Rattle.dl_rows.proofs.TableLemmas.{none_mapped}
 use Rattle.dl_net.specs.KeptLines.{joined, AreAsLong, lines_of, IsKeptLines}
 
 tail_long : {k : Kind} {h : ℕ} {b : List ℕ} {ks : List Kind} {hs : List ℕ} {bs : List (List ℕ)} → AreAsLong (k ∷ ks) (h ∷ hs) (b ∷ bs) → AreAsLong ks hs bs

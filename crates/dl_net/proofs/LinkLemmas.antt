@@ -5,8 +5,7 @@ use Rattle.std.proofs.lemmas.Bool.{cases_eq}
 use Rattle.std.proofs.lemmas.List.{get_or-map}
 use Rattle.std.proofs.lemmas.List.Elements.{All-nil, All-push, All-contains, Contains-append_left, Contains-append_cases, Contains-push}
 use Rattle.dl_base.proofs.Members.{only}
-use Rattle.dl_net.specs.Tables.{RowLists, list_at}
-use Rattle.dl_net.specs.Lines.{list_of}
+use Rattle.dl_rows.specs.Tables.{RowLists, list_at, list_of}
 use Rattle.dl_net.specs.Indexes.{place_in, by_place, HasLinks}
 
 -- a number at the end of one list of a table
@@ -87,19 +86,6 @@ HasLinks-put len order lowers uppers lowers' uppers' u l h within mu ml pl pu =
       lower_past = λ s past. put_past lowers lowers' u l pl len s lu past (h.lower_past s past);
       upper_past = λ s past. put_past uppers uppers' l u pu len s ll past (h.upper_past s past);
     }
-
--- a map that changes at one place
-pub map_changed : {X Y : Type 0} (f g : X → Y) (xs : List X) (k : ℕ) (d : X) (y : Y) → k < length xs → g (get_or xs k d) ≡ y
-    → ((i : ℕ) → i < length xs → i ≢ k → g (get_or xs i d) ≡ f (get_or xs i d)) → map g xs ≡ set (map f xs) k y
-map_changed f g [] k d y lt here other = absurd (omega (arith, lt))
-map_changed {X} {Y} f g (x ∷ xs) zero d y lt here other = λ i. here i ∷ rest xs (λ j within. other (suc j) (omega (arith, within)) (λ e. absurd (omega (arith, e)))) i
-  where
-    rest : (ys : List X) → ((j : ℕ) → j < length ys → g (get_or ys j d) ≡ f (get_or ys j d)) → map g ys ≡ map f ys
-    rest [] same = refl
-    rest (z ∷ ys) same = λ i. same 0 (omega arith) i ∷ rest ys (λ j within. same (suc j) (omega (arith, within))) i
-map_changed f g (x ∷ xs) (suc k) d y lt here other =
-    λ i. other 0 (omega arith) (λ e. absurd (omega (arith, e))) i
-    ∷ map_changed f g xs k d y (omega (arith, lt)) here (λ j within differs. other (suc j) (omega (arith, within)) (λ e. differs (omega (arith, e)))) i
 
 -- the place of a member
 pub member_place : (order places : List ℕ) (u : ℕ) → ((k : ℕ) → k < length order → place_in places (get_or order k 0) ≡ k) → Contains order u

@@ -23,11 +23,16 @@ use Rattle.dl_theory.specs.Listings.{Occurs, Mentions}
 use Rattle.dl_theory.specs.Edits.{after_edit}
 use Rattle.dl_net.specs.Numbers.{NetLists, IsNumbered, no_literal}
 use Rattle.dl_net.specs.Above.{lower_step, upper_step}
-use Rattle.dl_net.specs.Named.{IsPaired, HasLiterals, HasFacts, Grows, number_in, line_in}
+use Rattle.dl_names.specs.Paired.{IsPaired, Grows, number_in}
+use Rattle.dl_net.specs.Named.{HasLiterals, HasFacts, line_in}
 use Rattle.dl_net.specs.Lines.{IndexLists}
 use Rattle.dl_net.specs.KeptNet.{HasTables}
 use Rattle.dl_net.specs.Edited.{HasEditLiterals}
-use Rattle.dl_net.proofs.NameLemmas.{paired_closed, complement_twice, number_at, number_within, Grows-keeps, literals_kept}
+use Rattle.dl_names.proofs.NameLemmas.{paired_closed, complement_twice, number_at, number_within, Grows-keeps}
+
+-- a rule's literals stay
+pub literals_kept : (a b : List Literal) (r : Rule) → ((q : Literal) → Contains a q → Contains b q) → HasLiterals a r → HasLiterals b r
+literals_kept a b r more h = (more r.head h.0, All-weaker (Contains a) (Contains b) more r.body h.1)
 
 module _ (T : TheoryLists) (ls : List Literal) (facts : All (Contains ls) T.facts) (rules : All (HasLiterals ls) T.rules) where
   occurs_in : (q : Literal) → Occurs T q → Contains ls q

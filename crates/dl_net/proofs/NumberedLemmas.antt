@@ -18,12 +18,13 @@ use Rattle.dl_theory.specs.Lists.{TheoryLists, no_lists, IsWellFormed, labels}
 use Rattle.dl_theory.specs.Edits.{IsAccepted, after_edit}
 use Rattle.dl_theory.proofs.WellFormed.{edit_keeps}
 use Rattle.dl_net.specs.Numbers.{no_literal}
-use Rattle.dl_net.specs.Named.{Grows, HasFacts, HasLiterals, number_in, line_in}
+use Rattle.dl_names.specs.Paired.{Grows, number_in}
+use Rattle.dl_net.specs.Named.{HasFacts, HasLiterals, line_in}
 use Rattle.dl_net.specs.Lines.{Line, IndexLists, no_index, KeepsRules, IsWithin}
 use Rattle.dl_net.specs.Linking.{lowers_by, uppers_by}
 use Rattle.dl_net.specs.KeptNet.{numbered, HasTables}
 use Rattle.dl_net.specs.FromNumbers.{bare_index, literal_in, rule_from, rules_from, theory_from, with_pairs, IsFromNumbers, IsLoading}
-use Rattle.dl_net.proofs.NameLemmas.{number_within}
+use Rattle.dl_names.proofs.NameLemmas.{number_within}
 use Rattle.dl_net.proofs.AboveLemmas.{line_within}
 use Rattle.dl_net.proofs.NetLemmas.{facts_after, rules_after, tables_by}
 use Rattle.dl_net.proofs.JoinLemmas.{same_rules, tables_roomed, facts_joined, index_like, index_joined}

@@ -10,11 +10,10 @@ use Rattle.dl_lit.specs.declared.literal.Literal.{Literal}
 use Rattle.dl_lit.specs.Order.{literal_eq-Decides}
 use Rattle.dl_theory.specs.declared.rule.Rule.{Rule}
 use Rattle.dl_theory.specs.Listings.{Occurs}
-use Rattle.dl_net.specs.Counting.{times}
-use Rattle.dl_net.specs.Rows.{places_from, places}
+use Rattle.dl_rows.specs.Counting.{times, is_in}
+use Rattle.dl_rows.specs.Rows.{places_from, places}
 use Rattle.dl_net.specs.Numbers.{NetLists, IsNumbered, literal_at, number, body_row, is_fact}
 use Rattle.dl_net.specs.Named.{head_row}
-use Rattle.dl_net.specs.Lines.{is_in}
 use Rattle.dl_net.proofs.PlaceLemmas.{one, times_single, times_once}
 use Rattle.dl_net.proofs.FindLemmas.{number_finds, head_named}
 

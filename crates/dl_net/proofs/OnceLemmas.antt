@@ -9,9 +9,8 @@ use Rattle.std.proofs.lemmas.List.Kept.{AllPairs-filter}
 use Rattle.dl_base.specs.Paths.{IsDistinct}
 use Rattle.dl_base.proofs.Distinct.{distinct_nil, distinct_cons}
 use Rattle.dl_base.proofs.Filters.{length-filter_le}
-use Rattle.dl_net.specs.Counting.{each_once}
-use Rattle.dl_net.specs.Lines.{is_in}
-use Rattle.dl_net.proofs.NumberLists.{alike, differ, and_true, is_in-filter, false_from}
+use Rattle.dl_rows.specs.Counting.{each_once, is_in}
+use Rattle.dl_rows.proofs.NumberLists.{alike, differ, and_true, is_in-filter, false_from}
 use Rattle.dl_net.proofs.OccursLemmas.{stands}
 
 -- another member is new, or was there

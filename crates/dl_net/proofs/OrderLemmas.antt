@@ -3,7 +3,7 @@ use Rattle.std.proofs.Common.{◌≡◌, ℕ, zero, suc, ◌+◌, ◌-◌, ◌<�
 use Rattle.std.specs.Prelude.{All, Contains}
 use Rattle.std.proofs.lemmas.List.{get_or_default}
 use Rattle.std.proofs.lemmas.List.Elements.{All-get_or}
-use Rattle.dl_net.specs.Tables.{RowLists}
+use Rattle.dl_rows.specs.Tables.{RowLists}
 use Rattle.dl_net.specs.Lines.{Line, IndexLists, line_at}
 use Rattle.dl_net.specs.KeptIndex.{index_of}
 use Rattle.dl_net.specs.declared.index.Index.TheInside.{Inside}

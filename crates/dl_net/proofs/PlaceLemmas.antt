@@ -8,10 +8,10 @@ use Rattle.std.proofs.lemmas.List.{get_or-map}
 use Rattle.dl_base.proofs.Filters.{filter_mapped, length-filter_le}
 use Rattle.dl_theory.specs.Lists.{can_support}
 use Rattle.dl_net.proofs.LinkLemmas.{member_place}
-use Rattle.dl_net.specs.Counting.{times, each_once}
-use Rattle.dl_net.specs.Rows.{places_from, places}
-use Rattle.dl_net.specs.Tables.{RowLists, list_at}
-use Rattle.dl_net.specs.Lines.{Line, no_line, is_in, passes, kind_row, heads_row, uses_row, line_at}
+use Rattle.dl_rows.specs.Counting.{times, each_once, is_in}
+use Rattle.dl_rows.specs.Rows.{places_from, places}
+use Rattle.dl_rows.specs.Tables.{RowLists, list_at}
+use Rattle.dl_net.specs.Lines.{Line, no_line, passes, kind_row, heads_row, uses_row, line_at}
 use Rattle.dl_net.specs.Indexes.{place_in, HasRules}
 
 abbrev pub one : Bool → ℕ

@@ -2,9 +2,9 @@
 use Rattle.std.proofs.Common.{◌≡◌, ◌≢◌, ℕ, ◌<◌, false, List, [], ◌∷◌, ◌++◌, length, get_or, set, sym, ap, ◌∙◌, inl, inr, cond, get_or-set_same, get_or-set_other}
 use Rattle.std.proofs.lemmas.Bool.{cases_eq}
 use Rattle.std.proofs.lemmas.List.{append-nil}
-use Rattle.dl_net.specs.Tables.{RowLists, list_at, spare_at}
-use Rattle.dl_net.specs.Lines.{is_in}
-use Rattle.dl_net.proofs.NumberLists.{is_in-push_same, is_in-push_other}
+use Rattle.dl_rows.specs.Tables.{RowLists, list_at, spare_at}
+use Rattle.dl_rows.specs.Counting.{is_in}
+use Rattle.dl_rows.proofs.NumberLists.{is_in-push_same, is_in-push_other}
 
 module _ (old now : RowLists) (done : List ℕ) (b rule : ℕ) (so : (n : ℕ) → list_at now n ≡ list_at old n ++ cond (is_in done n) (rule ∷ []) []) where
   pub added : (new : RowLists) → is_in done b ≡ false → b < length now.lists → new.lists ≡ set now.lists b (list_at now b ++ rule ∷ [])

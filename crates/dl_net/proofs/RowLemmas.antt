@@ -6,7 +6,7 @@ use Rattle.dl_theory.specs.declared.rule.Rule.{Rule}
 use Rattle.dl_theory.specs.Lists.{can_support}
 use Rattle.dl_net.specs.Lines.{Line, no_line, passes, kind_row}
 use Rattle.dl_net.specs.Numbers.{NetLists, no_rule, rule_at, lowers_row, defends_row}
-use Rattle.dl_net.specs.Rows.{row}
+use Rattle.dl_rows.specs.Rows.{row}
 
 module _ {X : Type 0} (f : X → List ℕ) where
   pub row_in : (xs : List X) (k : ℕ) (d : X) → k < length xs → row f xs k ≡ f (get_or xs k d)

@@ -7,10 +7,11 @@ use Rattle.std.proofs.lemmas.List.{get_or_append_left, get_or_at, map-append, ap
 use Rattle.std.proofs.lemmas.List.Elements.{All-push, All-get_or, All-weaker, All-contains, All-contains_itself, filter-append}
 use Rattle.std.proofs.lemmas.List.Quantifiers.{all_pairs_push}
 use Rattle.dl_base.proofs.Members.{map_agree}
-use Rattle.dl_net.specs.Tables.{RowLists, list_at, KeepsLists}
-use Rattle.dl_net.specs.Lines.{Line, no_line, is_in, line_at}
+use Rattle.dl_rows.specs.Tables.{RowLists, list_at, KeepsLists}
+use Rattle.dl_net.specs.Lines.{Line, no_line, line_at}
+use Rattle.dl_rows.specs.Counting.{is_in}
 use Rattle.dl_net.specs.Indexes.{place_in, by_place, HasRules, HasLinks}
-use Rattle.dl_net.proofs.NumberLists.{filter_agree_on, alike, differ}
+use Rattle.dl_rows.proofs.NumberLists.{filter_agree_on, alike, differ}
 
 -- a fact that each member of a list has because it is a member
 pub All-by_member : {X : Type 0} (P : X → Type 0) (xs : List X) → ((x : X) → Contains xs x → P x) → All P xs

@@ -123,11 +123,6 @@ pub pairs_kept : (H : TheoryLists) (o : Option Edit) → Holds (told H o) H o �
 pairs_kept H None h = begins_same H.pairs H.pairs refl
 pairs_kept H (Some e) h = pairs_begin (taken_back H e) H e h
 
-pub slice_get-append_left : {X : Type 0} (xs ys : List X) (i : ℕ) → i < length xs → slice_get (xs ++ ys) i ≡ slice_get xs i
-slice_get-append_left [] ys i lt = absurd (omega (arith, lt))
-slice_get-append_left (x ∷ xs) ys zero lt = refl
-slice_get-append_left (x ∷ xs) ys (suc i) lt = slice_get-append_left xs ys i (omega (arith, lt))
-
 -- what stands within the beginning
 pub begin_get : {X : Type 0} (xs ys : List X) (i : ℕ) → Begins xs ys → i < length xs → slice_get ys i ≡ slice_get xs i
 begin_get {X} xs ys i b lt = ap (λ (zs : List X). slice_get zs i) b.1 ∙ slice_get-append_left xs b.0 i lt

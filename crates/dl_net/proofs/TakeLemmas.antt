@@ -14,11 +14,13 @@ use Rattle.std.proofs.lemmas.Map.Made.{is_member-Decides}
 use Rattle.dl_base.specs.Paths.{IsDistinct}
 use Rattle.dl_base.proofs.Filters.{filter_all, filter_mapped, map-remove, Contains-kept, remove_is_filter}
 use Rattle.dl_base.proofs.Members.{map_agree, Contains-filtered}
-use Rattle.dl_net.specs.Tables.{RowLists, list_at, drop_item}
-use Rattle.dl_net.specs.Lines.{Line, no_line, is_in, line_at, list_of, place_without, list_without}
+use Rattle.dl_rows.specs.Tables.{RowLists, list_at, drop_item, list_of}
+use Rattle.dl_net.specs.Lines.{Line, no_line, line_at, place_without, list_without}
+use Rattle.dl_rows.specs.Counting.{is_in}
 use Rattle.dl_net.specs.Indexes.{place_in, by_place, HasRules, HasLinks}
-use Rattle.dl_net.proofs.NumberLists.{filter_agree_on, alike, differ, is_in-push_same, is_in-push_other, is_in-filter, and_true}
-use Rattle.dl_net.proofs.LinkLemmas.{member_place, map_changed}
+use Rattle.dl_rows.proofs.NumberLists.{filter_agree_on, alike, differ, is_in-push_same, is_in-push_other, is_in-filter, and_true}
+use Rattle.dl_net.proofs.LinkLemmas.{member_place}
+use Rattle.dl_rows.proofs.TableLemmas.{map_changed}
 use Rattle.dl_net.proofs.PlaceLemmas.{filter_both}
 use Rattle.dl_net.proofs.RuleLemmas.{All-by_member}
 

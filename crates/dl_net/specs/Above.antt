@@ -1,5 +1,5 @@
 -- Which rules one pair puts below a rule, and above one.
-use Rattle.std.specs.Prelude.{ℕ, zero, suc, true, ◌&&◌, cond, List, []}
+use Rattle.std.specs.Prelude.{ℕ, true, ◌&&◌, cond, List, []}
 use Rattle.std.specs.Str.{bytes_eq}
 use Rattle.dl_theory.specs.declared.rule.Rule.{Rule}
 use Rattle.dl_theory.specs.declared.rule.Pair.{Pair}
@@ -12,9 +12,3 @@ lower_step T p t = cond (bytes_eq p.upper t.label) (labelled T p.lower (test.is_
 
 abbrev pub upper_step : TheoryLists → Pair → Rule → List ℕ
 upper_step T p u = cond (bytes_eq p.lower u.label) (labelled T p.upper (λ t. test.is_opposing T t.head u && true)) []
-
--- the number of the complement
-abbrev pub flip : ℕ → ℕ
-flip zero = 1
-flip (suc zero) = 0
-flip (suc (suc k)) = suc (suc (flip k))

@@ -1,7 +1,8 @@
 -- What ties rules by inner number to the lists that lead to them. Each list of an index is a part of the list of live rules.
 use Rattle.std.specs.Prelude.{◌≡◌, ℕ, ◌<◌, ◌≤◌, ◌==◌, List, [], length, get_or, map, filter, All, AllPairs, Contains}
-use Rattle.dl_net.specs.Tables.{RowLists, list_at}
-use Rattle.dl_net.specs.Lines.{Line, line_at, is_in}
+use Rattle.dl_rows.specs.Tables.{RowLists, list_at}
+use Rattle.dl_net.specs.Lines.{Line, line_at}
+use Rattle.dl_rows.specs.Counting.{is_in}
 
 -- the place of an inner number
 abbrev pub place_in : List ℕ → ℕ → ℕ

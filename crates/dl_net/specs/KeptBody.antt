@@ -1,6 +1,6 @@
 -- How the fields of a body hold its numbers.
 use Rattle.std.specs.Prelude.{◌≡◌, ℕ, ◌<◌, ◌^◌, List, length}
-use Rattle.dl_net.specs.Counting.{each_once}
+use Rattle.dl_rows.specs.Counting.{each_once}
 use Rattle.dl_net.specs.declared.body.Form.{Form}
 use Rattle.dl_net.specs.declared.body.Form.TheVariants.{Plain, Repeating}
 

@@ -7,7 +7,7 @@ use Rattle.dl_net.specs.declared.graph.Source.{Source}
 use Rattle.dl_net.specs.declared.graph.Source.TheVariants.{Staged, Kept}
 use Rattle.dl_net.specs.declared.graph.Graph.TheInside.{Inside}
 use Rattle.dl_net.specs.Numbers.{NetLists, IsNumbered}
-use Rattle.dl_net.specs.Named.{IsPaired}
+use Rattle.dl_names.specs.Paired.{IsPaired}
 use Rattle.dl_net.specs.Lines.{Line}
 use Rattle.dl_net.specs.KeptNet.{HasTables, numbered}
 use Rattle.dl_net.specs.FromNumbers.{theory_from}

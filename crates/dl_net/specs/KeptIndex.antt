@@ -4,7 +4,7 @@ use Rattle.dl_net.specs.declared.index.Index.TheInside.{Inside}
 use Rattle.dl_net.specs.declared.entry.Between.{Between}
 use Rattle.dl_net.specs.declared.entry.Room.{Room}
 use Rattle.dl_net.specs.declared.entry.Room.TheVariants.{Nothing, ForRule, ForLink}
-use Rattle.dl_net.specs.Tables.{spare_at}
+use Rattle.dl_rows.specs.Tables.{spare_at}
 use Rattle.dl_net.specs.Lines.{Line, Meeting, IndexLists, line_at, IsWithin}
 use Rattle.dl_net.specs.Indexes.{place_in, HasRules, HasLinks, by_place}
 

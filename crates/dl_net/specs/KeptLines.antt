@@ -2,7 +2,7 @@
 use Rattle.std.specs.Prelude.{◌≡◌, ℕ, min, List, [], ◌∷◌, length}
 use Rattle.dl_theory.specs.declared.rule.Kind.{Kind}
 use Rattle.dl_net.specs.declared.lines.Lines.TheInside.{Inside}
-use Rattle.dl_net.specs.Listed.{Listed}
+use Rattle.dl_rows.specs.Listed.{Listed}
 use Rattle.dl_net.specs.Lines.{Line}
 
 -- the rules with these kinds, heads and bodies

@@ -1,11 +1,10 @@
 -- Rules by number, and the lists that lead to them.
 use Rattle.std.specs.Prelude.{◌≡◌, ℕ, ◌-◌, ◌<◌, ◌≤◌, ◌==◌, nat_lt, Bool, not, cond, Option, None, Some, List, [], ◌∷◌, All, get_or, map, filter}
-use Rattle.std.specs.List.{list_any}
 use Rattle.dl_theory.specs.declared.rule.Kind.{Kind}
 use Rattle.dl_theory.specs.declared.rule.Kind.TheVariants.{Defeater}
 use Rattle.dl_theory.specs.Lists.{is_strict, can_support}
-use Rattle.dl_net.specs.Counting.{each_once}
-use Rattle.dl_net.specs.Listed.{Listed}
+use Rattle.dl_rows.specs.Counting.{each_once}
+use Rattle.dl_rows.specs.Listed.{Listed}
 
 -- a rule by the numbers of its literals
 pub record Line : Type 0 where
@@ -15,10 +14,6 @@ pub record Line : Type 0 where
 
 abbrev pub no_line : Line
 no_line = record { kind = Defeater; head = 0; body = [] }
-
--- whether the number is in the list
-abbrev pub is_in : List ℕ → ℕ → Bool
-is_in xs n = list_any (λ x. n == x) xs
 
 -- whether a rule is strict, or else whether it can support its head
 abbrev pub passes : Bool → Kind → Bool
@@ -63,9 +58,6 @@ pub record KeepsRules (old new : IndexLists) : Type 0 where
 -- the numbers are below the width
 abbrev pub IsWithin : ℕ → Line → Type 0
 IsWithin width l = (l.head < width) × All (λ b. b < width) l.body
-
-abbrev pub list_of : List (List ℕ) → ℕ → List ℕ
-list_of lists n = get_or lists n []
 
 -- the place of a rule when the one at k goes
 abbrev pub place_without : ℕ → ℕ → ℕ

@@ -12,8 +12,8 @@ use Rattle.dl_theory.specs.declared.edit.Edit.{Edit}
 use Rattle.dl_theory.specs.Lists.{TheoryLists, no_lists, is_strict, can_support, attackers}
 use Rattle.dl_theory.specs.Listings.{Mentions}
 use Rattle.dl_theory.specs.Tests as test
-use Rattle.dl_net.specs.Counting.{each_once}
-use Rattle.dl_net.specs.Rows.{row, places}
+use Rattle.dl_rows.specs.Counting.{each_once}
+use Rattle.dl_rows.specs.Rows.{row, places}
 use Rattle.dl_net.specs.declared.link.Link.{Link}
 use Rattle.dl_net.specs.declared.link.Link.TheVariants.{Same, Uses, Backs, Proves, Opposes, Defends, Counters}
 

@@ -6,8 +6,8 @@ use Rattle.dl_theory.specs.declared.edit.Edit.{Edit}
 use Rattle.dl_theory.specs.declared.edit.Edit.TheVariants.{AddRule, DropRule, AddFact, DropFact, AddPair, DropPair}
 use Rattle.dl_theory.specs.Lists.{TheoryLists, labels}
 use Rattle.dl_theory.specs.Edits.{IsAccepted}
-use Rattle.dl_net.specs.Above.{flip}
-use Rattle.dl_net.specs.Named.{HasLiterals, number_in, line_in}
+use Rattle.dl_names.specs.Paired.{flip, number_in}
+use Rattle.dl_net.specs.Named.{HasLiterals, line_in}
 use Rattle.dl_net.specs.Lines.{Line, IndexLists, no_line}
 use Rattle.dl_net.specs.Numbers.{NetLists}
 

@@ -1,11 +1,11 @@
 //! Bodies of rules by the numbers of their literals.
 
 ghost use Rattle.std.specs.Prelude.{◌≡◌, ◌<◌, ◌^◌, [], IfOk, length};
-ghost use Rattle.dl_net.specs.Counting.{each_once};
+ghost use Rattle.dl_rows.specs.Counting.{each_once};
 ghost use Rattle.dl_net.specs.Lines.{once_or};
 
-use crate::row::Row;
 use dl_base::Memory;
+use dl_rows::Row;
 use std::alloc::Global;
 use std::marker::Model;
 use std::mem::size_of;

@@ -3,7 +3,7 @@
 ghost use Rattle.std.specs.Prelude.{◌≡◌, IfOk, IfErr, OnOk, OnErr, IsTrue, None, Some, false};
 ghost use Rattle.dl_theory.specs.Edits.{IsAccepted, IsStopped, after_edit};
 ghost use Rattle.dl_net.specs.Edited.{edit_literals};
-ghost use Rattle.dl_net.specs.Named.{IsNear, Grows};
+ghost use Rattle.dl_names.specs.Paired.{IsNear, Grows};
 
 use crate::index::Index;
 use crate::load::index_of;

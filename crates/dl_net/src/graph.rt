@@ -9,8 +9,8 @@ use crate::graph_names::GraphNames;
 use crate::index::Index;
 use crate::load::other;
 use crate::staged::Staged;
-use crate::table::Table;
 use dl_lit::{Literal, LiteralRef, Name, NameSet};
+use dl_rows::Table;
 use dl_theory::RulePairs;
 use std::marker::Model;
 
@@ -32,7 +32,6 @@ pub(crate) struct Kept<'a> {
 }
 
 /// A theory by numbers with its indexes, borrowed from what keeps them.
-#[derive(Drop)]
 pub struct Graph<'a> {
     pub(crate) names: GraphNames<'a>,
     /// By number, whether the literal is a fact.
@@ -40,6 +39,17 @@ pub struct Graph<'a> {
     pub(crate) index: &'a Index,
     /// What the numbers stand for. No reader looks there: the index has as many rules.
     pub(crate) source: Source<'a>,
+}
+
+impl Drop for Graph<'_> {
+    fn drop(self) {
+        let Graph {
+            names: _,
+            facts: _,
+            index: _,
+            source: _,
+        } = self;
+    }
 }
 
 impl<'a> Model for Graph<'a> {

@@ -5,13 +5,11 @@ ghost use Rattle.std.specs.Option.{option_map};
 ghost use Rattle.dl_base.specs.Paths.{IsDistinct};
 ghost use Rattle.dl_lit.specs.Borrowed.{literal_of};
 ghost use Rattle.dl_lit.specs.Literal.{literal_eq};
-ghost use Rattle.dl_net.specs.Named.{IsPaired};
+ghost use Rattle.dl_names.specs.Paired.{IsPaired};
 ghost use Rattle.dl_net.specs.GraphNames.{numbering};
 
-use crate::atom_pairs::AtomPairs;
-use crate::names::PairedNames;
-use crate::whole_pairs::WholePairs;
 use dl_lit::{Literal, LiteralRef};
+use dl_names::{AtomPairs, PairedNames, WholePairs};
 
 /// Literals by number, borrowed in one of the forms in which they are kept.
 #[derive(Clone, Copy)]

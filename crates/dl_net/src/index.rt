@@ -6,29 +6,26 @@
 
 ghost use Rattle.std.specs.Prelude.{◌≡◌, ℕ, ◌+◌, ◌<◌, ◌≤◌, ◌^◌, ◌↔◌, [], ◌∷◌, ◌++◌, All, IsTrue, Some, None, IsSome, IfSome, IfNone, IfOk, OnOk, OnErr, option_to_list, length, filter, slice_get, get_or, set, map, remove};
 ghost use Rattle.dl_theory.specs.Lists.{is_strict, can_support};
-ghost use Rattle.dl_net.specs.Counting.{each_once};
-ghost use Rattle.dl_net.specs.Rows.{places, row};
-ghost use Rattle.dl_net.specs.Tables.{list_at, drop_item};
-ghost use Rattle.dl_net.specs.Lines.{KeepsRules, no_index, no_line, list_of, heads_row, uses_row, kind_row, IsWithin, list_without};
+ghost use Rattle.dl_rows.specs.Counting.{each_once};
+ghost use Rattle.dl_rows.specs.Rows.{places, row};
+ghost use Rattle.dl_rows.specs.Tables.{list_at, drop_item, list_of};
+ghost use Rattle.dl_net.specs.Lines.{KeepsRules, no_index, no_line, heads_row, uses_row, kind_row, IsWithin, list_without};
 ghost use Rattle.dl_net.specs.Indexes.{place_in, IsStill};
 
 use crate::counts::{can_support, count, passes};
 use crate::entry::{Between, Entry, Room};
 use crate::lines::Lines;
 use crate::link_counts::LinkCounts;
-use crate::lists::Lists;
 use crate::put::{append_both, put_rule, reserve_at, reserve_rule, widen};
-use crate::rows::RowTable;
 use crate::rule_lists::RuleLists;
-use crate::table::Table;
 use crate::take::{place_from, take_links, take_rule};
 use dl_base::Memory;
+use dl_rows::{Lists, RowTable, Table};
 use dl_theory::Kind;
 use std::alloc::Global;
 use std::marker::Model;
 use std::mem;
 
-#[derive(Drop)]
 pub(crate) struct Index {
     lines: Lines,
     order: Table<u32>,
@@ -38,6 +35,21 @@ pub(crate) struct Index {
     lowers: RowTable,
     uppers: RowTable,
     room: Room,
+}
+
+impl Drop for Index {
+    fn drop(self) {
+        let Index {
+            lines: _,
+            order: _,
+            places: _,
+            heads: _,
+            uses: _,
+            lowers: _,
+            uppers: _,
+            room: _,
+        } = self;
+    }
 }
 
 impl Model for Index {

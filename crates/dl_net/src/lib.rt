@@ -1,10 +1,13 @@
-//! A theory by numbers.
+//! A theory by numbers: what a fill reads of it in one step each.
+//!
+//! A literal's number is its place among the names, a rule's its place in the list. `Net` holds a theory that takes edits,
+//! `NumberedTheory` takes one statement by statement as it is read, and `NumberedNet` takes that over when the last one is there.
+//! `Graph` is what fills read of either: the rules with a head, those that use a literal, those above and below a rule. A net stands
+//! for a theory after each edit, each of these lists is exactly what the theory's lists say, and no number of a literal changes.
+//! Begin with `specs/Numbers.antt`, which says it in words of the logic, and with `graph.rt`.
 #![tactic(auto)]
 
-mod atom;
-mod atom_pairs;
 mod body;
-mod both;
 mod counts;
 mod edits;
 mod entry;
@@ -16,44 +19,25 @@ mod lines;
 mod link;
 mod link_counts;
 mod links;
-mod lists;
 mod load;
-mod names;
 mod net;
 mod net_readers;
 mod number;
 mod numbered;
 mod numbered_net;
-#[cfg(test)]
-mod numbered_tests;
-mod open_rows;
-mod packed_rows;
-#[cfg(test)]
-mod packed_tests;
-mod pair_set;
-#[cfg(test)]
-mod pair_tests;
 mod put;
 mod readers;
 mod ready;
-mod region;
-#[cfg(test)]
-mod region_tests;
 mod room;
-mod row;
-mod rows;
 mod rule_lists;
 mod staged;
-mod stems;
-mod table;
 mod tables;
 mod take;
-mod whole_pairs;
 
+pub use dl_rows::Region;
 pub use graph::Graph;
 pub use link::Link;
 pub use net::Net;
 pub use numbered::NumberedTheory;
 pub use numbered_net::NumberedNet;
 pub use ready::Ready;
-pub use region::Region;

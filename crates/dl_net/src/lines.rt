@@ -1,31 +1,40 @@
 //! Rules by number.
 
 ghost use Rattle.std.specs.Prelude.{◌≡◌, ◌<◌, ◌^◌, [], ◌∷◌, ◌++◌, OnOk, length, set};
-ghost use Rattle.dl_net.specs.Counting.{each_once};
+ghost use Rattle.dl_rows.specs.Counting.{each_once};
 ghost use Rattle.dl_net.specs.Lines.{no_line, line_at};
 
 use crate::body::BodyNumbers;
 use crate::entry::Entry;
 use crate::load::other;
-use crate::table::Table;
 use dl_base::Memory;
+use dl_rows::Table;
 use dl_theory::Kind;
 use std::alloc::Global;
 use std::marker::Model;
 use std::mem::size_of;
 
 /// Rules by number. What is read most, kinds and heads, stands apart from the bodies. What stands behind it can be exchanged.
-#[derive(Drop)]
 pub(crate) struct Lines {
     kinds: Table<Kind>,
     heads: Table<u32>,
     bodies: Table<BodyNumbers>,
 }
 
+impl Drop for Lines {
+    fn drop(self) {
+        let Lines {
+            kinds: _,
+            heads: _,
+            bodies: _,
+        } = self;
+    }
+}
+
 const _: () = prove!(size_of::<Kind>() == 1);
 
 impl Model for Lines {
-    ghost use Rattle.dl_net.specs.Listed.{Listed};
+    ghost use Rattle.dl_rows.specs.Listed.{Listed};
     ghost use Rattle.dl_net.specs.Lines.{Line};
     ghost use Rattle.dl_net.specs.KeptLines.{lines_of, IsKeptLines};
 

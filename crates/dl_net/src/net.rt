@@ -3,7 +3,8 @@
 ghost use Rattle.std.specs.Prelude.{◌≡◌, ◌<◌, ◌^◌, ◌↔◌, ℕ, IfOk, IfSome, IfNone, ◌≤◌, IsTrue, None, true, false, All, Contains, length, map, position, slice_get, slice_index, get_or};
 ghost use Rattle.std.specs.List.{flat_map};
 ghost use Rattle.dl_net.specs.Above.{lower_step, upper_step};
-ghost use Rattle.dl_net.specs.Named.{IsPaired, HasLiterals, HasFacts, line_in};
+ghost use Rattle.dl_names.specs.Paired.{IsPaired};
+ghost use Rattle.dl_net.specs.Named.{HasLiterals, HasFacts, line_in};
 ghost use Rattle.std.specs.Option.{option_copied};
 ghost use Rattle.dl_lit.specs.Literal.{literal_eq};
 ghost use Rattle.dl_theory.specs.Lists.{IsWellFormed};
@@ -14,13 +15,12 @@ use crate::graph_names::GraphNames;
 use crate::index::Index;
 use crate::link::Link;
 use crate::load::index_of;
-use crate::names::PairedNames;
 use crate::number::mark_facts;
 use crate::staged::Staged;
-use crate::table::Table;
-use crate::whole_pairs::WholePairs;
 use dl_base::Memory;
 use dl_lit::Literal;
+use dl_names::{PairedNames, WholePairs};
+use dl_rows::Table;
 use dl_theory::{Pair, Rule, Theory};
 use std::alloc::Global;
 use std::marker::Model;
@@ -39,7 +39,13 @@ pub struct Net {
 
 impl Drop for Net {
     fn drop(self) {
-        let Net { staged: _, names: _, facts: _, index: _, frozen: _ } = self;
+        let Net {
+            staged: _,
+            names: _,
+            facts: _,
+            index: _,
+            frozen: _,
+        } = self;
     }
 }
 

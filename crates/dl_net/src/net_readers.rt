@@ -5,7 +5,7 @@ ghost use Rattle.dl_theory.specs.Lists.{Beats, IsAbove};
 ghost use Rattle.dl_theory.specs.Listings.{Mentions};
 ghost use Rattle.dl_net.specs.declared.link.Link.TheVariants.{Uses};
 ghost use Rattle.dl_net.specs.Numbers.{next, back, number, rule_at, literal_at, body_row};
-ghost use Rattle.dl_net.specs.Rows.{places};
+ghost use Rattle.dl_rows.specs.Rows.{places};
 ghost use Rattle.dl_net.specs.Named.{head_row};
 
 use crate::link::Link;

@@ -3,20 +3,17 @@
 ghost use Rattle.std.specs.Prelude.{◌≡◌, ◌<◌, ◌≤◌, ◌^◌, ◌∷◌, ◌++◌, [], List, OnOk, IfOk, All, Contains, length, map};
 ghost use Rattle.dl_base.specs.Paths.{IsDistinct};
 ghost use Rattle.dl_lit.specs.declared.literal.Literal.{Literal};
-ghost use Rattle.dl_net.specs.Named.{IsPaired, IsNear, Grows, HasLiterals, number_in, line_in, HasFacts};
-ghost use Rattle.dl_net.specs.Counting.{each_once};
+ghost use Rattle.dl_names.specs.Paired.{IsPaired, IsNear, Grows, number_in};
+ghost use Rattle.dl_net.specs.Named.{HasLiterals, line_in, HasFacts};
+ghost use Rattle.dl_rows.specs.Counting.{each_once};
 ghost use Rattle.dl_net.specs.Lines.{once_or};
 
 use crate::body::BodyNumbers;
 use crate::entry::Entry;
-use crate::names::PairedNames;
-use crate::pair_set::PairSet;
-use crate::region::Region;
-use crate::row::Row;
-use crate::table::Table;
-use crate::whole_pairs::WholePairs;
 use dl_base::Memory;
 use dl_lit::Literal;
+use dl_names::{PairSet, PairedNames, WholePairs};
+use dl_rows::{Region, Row, Table};
 use dl_theory::{Kind, Rule};
 use std::alloc::Global;
 

@@ -8,16 +8,14 @@ ghost use Rattle.dl_theory.specs.Lists.{TheoryLists};
 ghost use Rattle.dl_theory.specs.Edits.{HasLabel, IsAccepted, IsStopped, after_edit, after_edits, additions, AreAccepted, IsPairsStop};
 ghost use Rattle.dl_net.specs.Named.{HasFacts};
 
-use crate::atom_pairs::AtomPairs;
 use crate::labels::keep_first;
 use crate::lines::Lines;
 use crate::load::load_rule;
-use crate::names::PairedNames;
 use crate::number::number_fact;
-use crate::region::Region;
-use crate::table::Table;
 use dl_base::Memory;
 use dl_lit::{Literal, Name, NameSet, name_set};
+use dl_names::{AtomPairs, PairedNames};
+use dl_rows::{Region, Table};
 use dl_theory::{
     Body, EditRefusal, EditStop, LIMIT, Loading, Pair, PairsStop, Rule, RulePairs, holds_label,
     insert_label,

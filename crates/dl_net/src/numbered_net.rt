@@ -2,17 +2,16 @@
 
 ghost use Rattle.std.specs.Prelude.{◌≡◌, IfOk};
 
-use crate::atom_pairs::AtomPairs;
 use crate::graph::{Graph, Kept, Source};
 use crate::graph_names::GraphNames;
 use crate::index::Index;
 use crate::link_counts::LinkCounts;
 use crate::load::load_pairs;
-use crate::names::PairedNames;
 use crate::numbered::NumberedTheory;
-use crate::table::Table;
 use dl_base::Memory;
 use dl_lit::{Name, NameSet};
+use dl_names::{AtomPairs, PairedNames};
+use dl_rows::Table;
 use dl_theory::RulePairs;
 use std::marker::Model;
 
@@ -31,7 +30,14 @@ pub struct NumberedNet {
 
 impl Drop for NumberedNet {
     fn drop(self) {
-        let NumberedNet { labels: _, order: _, pairs: _, names: _, facts: _, index: _ } = self;
+        let NumberedNet {
+            labels: _,
+            order: _,
+            pairs: _,
+            names: _,
+            facts: _,
+            index: _,
+        } = self;
     }
 }
 

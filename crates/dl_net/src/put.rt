@@ -2,15 +2,13 @@
 
 ghost use Rattle.std.specs.Prelude.{◌≡◌, ℕ, ◌+◌, ◌<◌, ◌≤◌, ◌^◌, max, [], ◌∷◌, ◌++◌, All, length, OnOk, if◌then◌else◌, set};
 ghost use Rattle.dl_base.specs.Paths.{IsDistinct};
-ghost use Rattle.dl_net.specs.Tables.{list_at, spare_at, KeepsLists};
-ghost use Rattle.dl_net.specs.Lines.{is_in};
+ghost use Rattle.dl_rows.specs.Tables.{list_at, spare_at, KeepsLists};
+ghost use Rattle.dl_rows.specs.Counting.{is_in};
 
 use crate::entry::Entry;
 use crate::lines::Lines;
-use crate::lists::Lists;
-use crate::rows::RowTable;
-use crate::table::Table;
 use dl_base::Memory;
+use dl_rows::{Lists, RowTable, Table};
 
 /// The number goes last into the lists of a body's literals, of which none stands twice.
 pub(crate) fn put_uses(uses: &mut RowTable, body: &[u32], rule: u32)

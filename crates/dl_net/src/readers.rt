@@ -5,7 +5,7 @@ ghost use Rattle.dl_theory.specs.Lists.{can_support};
 ghost use Rattle.dl_theory.specs.Listings.{Mentions, Occurs};
 ghost use Rattle.dl_net.specs.declared.link.Link.TheVariants.{Uses};
 ghost use Rattle.dl_net.specs.Numbers.{back, number, rule_at, literal_at, body_row, backs_row, proves_row, opposes_row, lowers_row, uppers_row, defends_row};
-ghost use Rattle.dl_net.specs.Rows.{row, places};
+ghost use Rattle.dl_rows.specs.Rows.{row, places};
 ghost use Rattle.dl_net.specs.Named.{head_row, concluded_row};
 
 use crate::graph::Graph;

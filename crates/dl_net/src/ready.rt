@@ -3,7 +3,12 @@
 use dl_theory::Edit;
 
 /// An edit for which all memory has been taken.
-#[derive(Drop)]
 pub struct Ready {
     pub(crate) edit: Edit,
+}
+
+impl Drop for Ready {
+    fn drop(self) {
+        let Ready { edit: _ } = self;
+    }
 }

@@ -8,17 +8,17 @@ ghost use Rattle.dl_net.specs.Edited.{edit_literals};
 ghost use Rattle.dl_net.specs.Room.{HasEditRoom, HasPairRoom};
 ghost use Rattle.dl_net.specs.KeptNet.{HasTables, numbered};
 ghost use Rattle.dl_net.specs.Lines.{KeepsRules};
-ghost use Rattle.dl_net.specs.Named.{IsPaired, IsNear, Grows, HasFacts, HasLiterals, line_in};
+ghost use Rattle.dl_names.specs.Paired.{IsPaired, IsNear, Grows};
+ghost use Rattle.dl_net.specs.Named.{HasFacts, HasLiterals, line_in};
 
 use crate::index::Index;
 use crate::load::{meet, room_for_rule};
-use crate::names::PairedNames;
 use crate::number::number_fact;
 use crate::staged::Staged;
-use crate::table::Table;
-use crate::whole_pairs::WholePairs;
 use dl_base::Memory;
 use dl_lit::Literal;
+use dl_names::{PairedNames, WholePairs};
+use dl_rows::Table;
 use dl_theory::{Edit, Pair};
 use std::alloc::Global;
 

@@ -2,15 +2,14 @@
 
 ghost use Rattle.std.specs.Prelude.{◌≡◌, ◌<◌, ◌^◌, ℕ, All, IfOk, OnOk, [], ◌∷◌, ◌++◌, length, map, set, if◌then◌else◌};
 ghost use Rattle.dl_base.specs.Paths.{IsDistinct};
-ghost use Rattle.dl_net.specs.Tables.{list_at};
-ghost use Rattle.dl_net.specs.Lines.{IsWithin, line_at, is_in};
+ghost use Rattle.dl_rows.specs.Tables.{list_at};
+ghost use Rattle.dl_net.specs.Lines.{IsWithin, line_at};
+ghost use Rattle.dl_rows.specs.Counting.{is_in};
 ghost use Rattle.dl_net.specs.Indexes.{HasRules};
 
 use crate::lines::Lines;
-use crate::lists::Lists;
-use crate::rows::RowTable;
-use crate::table::Table;
 use dl_base::Memory;
+use dl_rows::{Lists, RowTable, Table};
 use std::alloc::Global;
 
 /// So many rules, or pairs of rules, are looked at before they are entered.

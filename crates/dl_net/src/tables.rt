@@ -6,15 +6,15 @@ ghost use Rattle.dl_base.specs.Paths.{IsDistinct};
 ghost use Rattle.dl_theory.specs.Edits.{IsAccepted, after_edit};
 ghost use Rattle.dl_net.specs.Room.{HasEditRoom, HasPairRoom};
 ghost use Rattle.dl_net.specs.KeptNet.{HasIndex, HasTables, numbered};
-ghost use Rattle.dl_net.specs.Named.{IsPaired, HasFacts, HasLiterals, number_in, line_in};
+ghost use Rattle.dl_names.specs.Paired.{IsPaired, number_in};
+ghost use Rattle.dl_net.specs.Named.{HasFacts, HasLiterals, line_in};
 
 use crate::index::Index;
 use crate::load::meet;
-use crate::names::PairedNames;
 use crate::staged::Staged;
-use crate::table::Table;
-use crate::whole_pairs::WholePairs;
 use dl_lit::{Literal, Name};
+use dl_names::{PairedNames, WholePairs};
+use dl_rows::Table;
 use dl_theory::{Edit, Pair, Rule};
 
 /// Makes an edit for which there is room.

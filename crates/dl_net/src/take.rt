@@ -2,14 +2,13 @@
 
 ghost use Rattle.std.specs.Prelude.{◌≡◌, ℕ, ◌<◌, ◌≤◌, ◌^◌, ◌==◌, [], All, length, set, get_or, if◌then◌else◌};
 ghost use Rattle.dl_base.specs.Paths.{IsDistinct};
-ghost use Rattle.dl_net.specs.Tables.{list_at, drop_item};
-ghost use Rattle.dl_net.specs.Lines.{is_in, no_line, line_at};
+ghost use Rattle.dl_rows.specs.Tables.{list_at, drop_item};
+ghost use Rattle.dl_rows.specs.Counting.{is_in};
+ghost use Rattle.dl_net.specs.Lines.{no_line, line_at};
 ghost use Rattle.dl_net.specs.Indexes.{place_in};
 
 use crate::lines::Lines;
-use crate::lists::Lists;
-use crate::rows::RowTable;
-use crate::table::Table;
+use dl_rows::{Lists, RowTable, Table};
 
 /// A number goes out of the lists at some numbers.
 pub(crate) fn take_out(rows: &mut RowTable, numbers: &[u32], item: u32)

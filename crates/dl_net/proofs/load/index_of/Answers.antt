@@ -11,7 +11,7 @@ use Rattle.dl_net.specs.Lines.{Line, IsWithin as IsInside}
 use Rattle.dl_net.specs.Linking.{AreRules}
 use Rattle.dl_net.proofs.AboveLemmas.{line_within}
 use Rattle.dl_net.proofs.PairRules.{have_places}
-use Rattle.dl_net.proofs.TableLemmas.{none_mapped}
+use Rattle.dl_rows.proofs.TableLemmas.{none_mapped}
 use Rattle.dl_net.proofs.load.index_of.Goals as goal
 
 lines_inside : (ls : List Literal) (rules : List Rule) (n : ℕ) → IsDistinct ls → All (HasLiterals ls) rules → length ls ≤ n

@@ -1,6 +1,6 @@
 use Rattle.std.proofs.lemmas.Result.{on_ok_weaker}
 use Rattle.std.proofs.Common.{◌∷◌, [], ◌++◌, ℕ, List, set, ap, ◌∙◌}
-use Rattle.dl_net.specs.Lines.{list_of}
+use Rattle.dl_rows.specs.Tables.{list_of}
 use Rattle.dl_net.proofs.AboveLemmas.{lowers_none, lowers_joined, uppers_none, uppers_joined}
 use Rattle.dl_net.proofs.load.load_pair.Goals as goal
 

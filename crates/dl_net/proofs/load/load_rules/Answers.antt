@@ -5,9 +5,10 @@ use Rattle.std.proofs.lemmas.List.Elements.{All-nil, All-push}
 use Rattle.dl_lit.specs.declared.literal.Literal.{Literal}
 use Rattle.dl_lit.specs.Names.{Numbering}
 use Rattle.dl_theory.specs.declared.rule.Rule.{Rule}
-use Rattle.dl_net.specs.Named.{IsNear, HasLiterals, Grows, line_in}
+use Rattle.dl_names.specs.Paired.{IsNear, Grows}
+use Rattle.dl_net.specs.Named.{HasLiterals, line_in}
 use Rattle.dl_net.specs.Lines.{Line}
-use Rattle.dl_net.proofs.NameLemmas.{Grows-none, Grows-trans, Grows-weaker}
+use Rattle.dl_names.proofs.NameLemmas.{Grows-none, Grows-trans, Grows-weaker}
 use Rattle.dl_net.proofs.NetLemmas.{rules_grown, lines_kept}
 use Rattle.dl_net.proofs.load.load_rules.Goals as goal
 

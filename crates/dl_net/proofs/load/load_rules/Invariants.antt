@@ -1,7 +1,8 @@
 use Rattle.std.proofs.Common.{◌≡◌, take, map}
 use Rattle.std.specs.Prelude.{All}
 use Rattle.dl_base.specs.Paths.{IsDistinct}
-use Rattle.dl_net.specs.Named.{IsPaired, Grows, HasLiterals, line_in}
+use Rattle.dl_names.specs.Paired.{IsPaired, Grows}
+use Rattle.dl_net.specs.Named.{HasLiterals, line_in}
 use Rattle.dl_net.proofs.load.load_rules.Given as goal
 
 abbrev pub invariant-loop-rule : goal.invariant-loop-rule

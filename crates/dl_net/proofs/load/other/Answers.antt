@@ -1,5 +1,5 @@
 use Rattle.std.proofs.Common.{arith}
-use Rattle.dl_net.proofs.NameLemmas.{flip_even, flip_odd}
+use Rattle.dl_names.proofs.NameLemmas.{flip_even, flip_odd}
 use Rattle.dl_net.proofs.load.other.Goals as goal
 
 pub returns-then-number-eq0 : goal.returns-then-number-eq0

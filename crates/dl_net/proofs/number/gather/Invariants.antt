@@ -1,5 +1,5 @@
 use Rattle.std.proofs.Common.{◌≡◌, take}
-use Rattle.dl_net.specs.Counting.{each_once}
+use Rattle.dl_rows.specs.Counting.{each_once}
 use Rattle.dl_net.proofs.number.gather.Given as goal
 
 abbrev pub invariant-loop-number : goal.invariant-loop-number

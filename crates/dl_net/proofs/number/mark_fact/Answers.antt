@@ -1,7 +1,7 @@
 use Rattle.std.proofs.Common.{◌∷◌, ◌++◌, [], ℕ, List, set, true, sym, ap, subst, ◌∙◌, arith}
 use Rattle.dl_lit.specs.declared.literal.Literal.{Literal}
 use Rattle.dl_net.specs.Named.{HasFacts}
-use Rattle.dl_net.proofs.NameLemmas.{number_within}
+use Rattle.dl_names.proofs.NameLemmas.{number_within}
 use Rattle.dl_net.proofs.JoinLemmas.{facts_joined}
 use Rattle.dl_net.proofs.number.mark_fact.Goals as goal
 

@@ -4,7 +4,8 @@ use Rattle.std.proofs.lemmas.List.{take_more, take_all}
 use Rattle.std.proofs.lemmas.List.Elements.{All-push}
 use Rattle.dl_lit.specs.declared.literal.Literal.{Literal}
 use Rattle.dl_lit.specs.Names.{Numbering}
-use Rattle.dl_net.specs.Named.{IsNear, Grows, HasFacts}
+use Rattle.dl_names.specs.Paired.{IsNear, Grows}
+use Rattle.dl_net.specs.Named.{HasFacts}
 use Rattle.dl_net.proofs.NetLemmas.{facts_grown, marks_kept}
 use Rattle.dl_net.proofs.number.mark_facts.Goals as goal
 

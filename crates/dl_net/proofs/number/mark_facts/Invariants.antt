@@ -1,6 +1,7 @@
 use Rattle.std.proofs.Common.{◌≡◌, take}
 use Rattle.std.specs.Prelude.{All, Contains}
-use Rattle.dl_net.specs.Named.{IsPaired, HasFacts}
+use Rattle.dl_names.specs.Paired.{IsPaired}
+use Rattle.dl_net.specs.Named.{HasFacts}
 use Rattle.dl_net.proofs.number.mark_facts.Given as goal
 
 abbrev pub invariant-loop-fact : goal.invariant-loop-fact

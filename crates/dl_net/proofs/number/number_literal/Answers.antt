@@ -1,6 +1,6 @@
 use Rattle.std.proofs.Common.{[], ◌∷◌, sym, subst}
-use Rattle.dl_net.specs.Named.{IsNear, Grows}
-use Rattle.dl_net.proofs.NameLemmas.{Grows-none, both_grows, found_at, number_found}
+use Rattle.dl_names.specs.Paired.{IsNear, Grows}
+use Rattle.dl_names.proofs.NameLemmas.{Grows-none, both_grows, found_at, number_found}
 use Rattle.dl_net.proofs.number.number_literal.Goals as goal
 
 pub returns-clause-grown : goal.returns-clause-grown

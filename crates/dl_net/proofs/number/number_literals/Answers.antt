@@ -5,8 +5,8 @@ use Rattle.std.proofs.lemmas.List.Elements.{All-push, All-weaker}
 use Rattle.dl_base.proofs.Members.{map_agree}
 use Rattle.dl_lit.specs.declared.literal.Literal.{Literal}
 use Rattle.dl_lit.specs.Names.{Numbering}
-use Rattle.dl_net.specs.Named.{IsNear, Grows, number_in}
-use Rattle.dl_net.proofs.NameLemmas.{Grows-trans, Grows-weaker, Grows-keeps, near_member}
+use Rattle.dl_names.specs.Paired.{IsNear, Grows, number_in}
+use Rattle.dl_names.proofs.NameLemmas.{Grows-trans, Grows-weaker, Grows-keeps, near_member}
 use Rattle.dl_net.proofs.NetLemmas.{number_kept}
 use Rattle.dl_net.proofs.number.number_literals.Goals as goal
 

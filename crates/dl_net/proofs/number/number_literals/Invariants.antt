@@ -1,7 +1,7 @@
 use Rattle.std.proofs.Common.{◌≡◌, take, map}
 use Rattle.std.specs.Prelude.{All, Contains}
 use Rattle.dl_base.specs.Paths.{IsDistinct}
-use Rattle.dl_net.specs.Named.{IsPaired, IsNear, Grows, number_in}
+use Rattle.dl_names.specs.Paired.{IsPaired, IsNear, Grows, number_in}
 use Rattle.dl_net.proofs.number.number_literals.Given as goal
 
 abbrev pub invariant-loop-literal : goal.invariant-loop-literal

@@ -1,5 +1,5 @@
 use Rattle.std.proofs.Common.{◌≡◌, length, take}
-use Rattle.dl_net.specs.Counting.{each_once}
+use Rattle.dl_rows.specs.Counting.{each_once}
 use Rattle.dl_net.proofs.number.once_len.Given as goal
 
 abbrev pub invariant-loop-at : goal.invariant-loop-at

@@ -2,8 +2,8 @@ use Rattle.std.proofs.Common.{◌≡◌, ℕ, Bool, List, false, get_or, sym, ap
 use Rattle.std.specs.Prelude.{Contains}
 use Rattle.std.proofs.lemmas.List.Elements.{All-contains}
 use Rattle.dl_lit.specs.declared.literal.Literal.{Literal}
-use Rattle.dl_net.specs.Named.{number_in}
-use Rattle.dl_net.proofs.NameLemmas.{found_at, number_found}
+use Rattle.dl_names.specs.Paired.{number_in}
+use Rattle.dl_names.proofs.NameLemmas.{found_at, number_found}
 use Rattle.dl_net.proofs.NumberedLemmas.{mark_tells}
 use Rattle.dl_net.proofs.numbered.holds_fact.Goals as goal
 

@@ -1,9 +1,9 @@
 use Rattle.std.proofs.Common.{◌≡◌, ℕ, ◌<◌, Bool, List, [], ◌∷◌, ◌++◌, length, cond, sym, ap, subst, ◌∙◌}
 use Rattle.std.specs.Prelude.{All}
 use Rattle.dl_base.specs.Paths.{IsDistinct}
-use Rattle.dl_net.specs.Tables.{list_at, spare_at}
-use Rattle.dl_net.specs.Counting.{each_once}
-use Rattle.dl_net.specs.Lines.{Line, is_in}
+use Rattle.dl_rows.specs.Tables.{list_at, spare_at}
+use Rattle.dl_rows.specs.Counting.{each_once, is_in}
+use Rattle.dl_net.specs.Lines.{Line}
 use Rattle.dl_net.proofs.OnceLemmas.{All-each_once, is_in-each_once, distinct_once}
 use Rattle.dl_net.proofs.put.put_rule.Goals as goal
 

@@ -2,8 +2,8 @@ use Rattle.std.proofs.Common.{◌≡◌, ℕ, ◌+◌, ◌<◌, false, List, [],
 use Rattle.std.proofs.Math.ListN.{length-set}
 use Rattle.std.proofs.lemmas.List.{take_more}
 use Rattle.std.proofs.lemmas.List.Elements.{All-get_or}
-use Rattle.dl_net.specs.Tables.{RowLists, list_at, spare_at}
-use Rattle.dl_net.specs.Lines.{is_in}
+use Rattle.dl_rows.specs.Tables.{RowLists, list_at, spare_at}
+use Rattle.dl_rows.specs.Counting.{is_in}
 use Rattle.dl_net.proofs.OnceLemmas.{once_new}
 use Rattle.dl_net.proofs.PutLemmas.{added, room_kept}
 use Rattle.dl_net.proofs.put.put_uses.Goals as goal

@@ -1,6 +1,6 @@
 use Rattle.std.proofs.Common.{◌≡◌, ℕ, ◌++◌, ◌∷◌, [], false, length, take, cond}
-use Rattle.dl_net.specs.Tables.{list_at, spare_at}
-use Rattle.dl_net.specs.Lines.{is_in}
+use Rattle.dl_rows.specs.Tables.{list_at, spare_at}
+use Rattle.dl_rows.specs.Counting.{is_in}
 use Rattle.dl_net.proofs.put.put_uses.Given as goal
 
 abbrev pub invariant-loop-number : goal.invariant-loop-number

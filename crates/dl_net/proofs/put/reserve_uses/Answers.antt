@@ -2,8 +2,8 @@ use Rattle.std.proofs.Common.{ℕ, ◌<◌, List, get_or, take, sym, subst, ◌�
 use Rattle.std.specs.Prelude.{All}
 use Rattle.std.proofs.lemmas.List.{take_more, take_all}
 use Rattle.std.proofs.lemmas.List.Elements.{All-push, All-weaker}
-use Rattle.dl_net.specs.Tables.{RowLists, spare_at}
-use Rattle.dl_net.proofs.Keeping.{KeepsLists-trans}
+use Rattle.dl_rows.specs.Tables.{RowLists, spare_at}
+use Rattle.dl_rows.proofs.Keeping.{KeepsLists-trans}
 use Rattle.dl_net.proofs.put.reserve_uses.Goals as goal
 
 pub loop-number-preserved : goal.loop-number-preserved

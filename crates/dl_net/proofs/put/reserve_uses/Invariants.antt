@@ -1,6 +1,6 @@
 use Rattle.std.proofs.Common.{◌≡◌, ◌<◌, length, take}
 use Rattle.std.specs.Prelude.{All}
-use Rattle.dl_net.specs.Tables.{KeepsLists, spare_at}
+use Rattle.dl_rows.specs.Tables.{KeepsLists, spare_at}
 use Rattle.dl_net.proofs.put.reserve_uses.Given as goal
 
 abbrev pub invariant-loop-number : goal.invariant-loop-number

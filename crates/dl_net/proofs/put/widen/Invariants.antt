@@ -1,5 +1,5 @@
 use Rattle.std.proofs.Common.{◌-◌, ◌≤◌, max, length}
-use Rattle.dl_net.specs.Tables.{KeepsLists}
+use Rattle.dl_rows.specs.Tables.{KeepsLists}
 use Rattle.dl_net.proofs.put.widen.Given as goal
 
 abbrev pub invariant-loop-rows : goal.invariant-loop-rows

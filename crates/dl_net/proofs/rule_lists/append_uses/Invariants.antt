@@ -1,6 +1,6 @@
 use Rattle.std.proofs.Common.{◌≡◌, ℕ, ◌++◌, ◌∷◌, [], length, take, cond}
-use Rattle.dl_net.specs.Tables.{list_at}
-use Rattle.dl_net.specs.Lines.{is_in}
+use Rattle.dl_rows.specs.Tables.{list_at}
+use Rattle.dl_rows.specs.Counting.{is_in}
 use Rattle.dl_net.proofs.rule_lists.append_uses.Given as goal
 
 abbrev pub invariant-loop-number : goal.invariant-loop-number

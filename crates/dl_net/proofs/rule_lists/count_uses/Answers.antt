@@ -1,6 +1,6 @@
 use Rattle.std.proofs.Common.{ℕ, ◌<◌, List, length, sym, subst, arith}
 use Rattle.std.specs.Prelude.{All}
-use Rattle.dl_net.specs.Counting.{each_once}
+use Rattle.dl_rows.specs.Counting.{each_once}
 use Rattle.dl_net.specs.Lines.{Line, no_line, IsWithin, line_at}
 use Rattle.dl_net.proofs.OnceLemmas.{All-each_once}
 use Rattle.dl_net.proofs.rule_lists.count_uses.Goals as goal

@@ -1,6 +1,6 @@
 use Rattle.std.proofs.Common.{ℕ, true, [], ◌∷◌, ◌++◌, set, sym, ap, subst, ◌∙◌, arith}
 use Rattle.dl_net.specs.Named.{HasFacts}
-use Rattle.dl_net.proofs.NameLemmas.{number_found}
+use Rattle.dl_names.proofs.NameLemmas.{number_found}
 use Rattle.dl_net.proofs.JoinLemmas.{facts_joined}
 use Rattle.dl_net.proofs.tables.add_fact.Goals as goal
 

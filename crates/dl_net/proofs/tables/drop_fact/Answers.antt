@@ -3,7 +3,7 @@ use Rattle.std.specs.Prelude.{Contains, filter}
 use Rattle.std.proofs.lemmas.List.Elements.{All-contains}
 use Rattle.dl_lit.specs.Literal.{literal_eq}
 use Rattle.dl_net.specs.Named.{HasFacts}
-use Rattle.dl_net.proofs.NameLemmas.{number_found}
+use Rattle.dl_names.proofs.NameLemmas.{number_found}
 use Rattle.dl_net.proofs.NetLemmas.{facts_left, fact_marked}
 use Rattle.dl_net.proofs.tables.drop_fact.Goals as goal
 

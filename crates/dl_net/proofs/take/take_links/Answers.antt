@@ -1,6 +1,6 @@
 use Rattle.std.proofs.Common.{cond, ap, ◌∙◌}
-use Rattle.dl_net.specs.Tables.{list_at, drop_item}
-use Rattle.dl_net.specs.Lines.{is_in}
+use Rattle.dl_rows.specs.Tables.{list_at, drop_item}
+use Rattle.dl_rows.specs.Counting.{is_in}
 use Rattle.dl_net.proofs.TakeLemmas.{cleared, in_without}
 use Rattle.dl_net.proofs.take.take_links.Goals as goal
 

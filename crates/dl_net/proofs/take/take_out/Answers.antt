@@ -1,7 +1,7 @@
 use Rattle.std.proofs.Common.{◌≡◌, ℕ, List, get_or, take, cond, sym, subst, ◌∙◌}
 use Rattle.std.proofs.lemmas.List.{take_more, take_all}
-use Rattle.dl_net.specs.Tables.{RowLists, list_at, drop_item}
-use Rattle.dl_net.specs.Lines.{is_in}
+use Rattle.dl_rows.specs.Tables.{RowLists, list_at, drop_item}
+use Rattle.dl_rows.specs.Counting.{is_in}
 use Rattle.dl_net.proofs.TakeLemmas.{taken}
 use Rattle.dl_net.proofs.take.take_out.Goals as goal
 

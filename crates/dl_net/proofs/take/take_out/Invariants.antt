@@ -1,6 +1,6 @@
 use Rattle.std.proofs.Common.{◌≡◌, ℕ, length, take, cond}
-use Rattle.dl_net.specs.Tables.{list_at, drop_item}
-use Rattle.dl_net.specs.Lines.{is_in}
+use Rattle.dl_rows.specs.Tables.{list_at, drop_item}
+use Rattle.dl_rows.specs.Counting.{is_in}
 use Rattle.dl_net.proofs.take.take_out.Given as goal
 
 abbrev pub invariant-loop-number : goal.invariant-loop-number

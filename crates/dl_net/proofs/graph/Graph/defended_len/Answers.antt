@@ -1,5 +1,5 @@
 use Rattle.std.proofs.Common.{[], length, cond, sym, ap, ◌∙◌}
-use Rattle.dl_net.specs.Rows.{row}
+use Rattle.dl_rows.specs.Rows.{row}
 use Rattle.dl_net.specs.Numbers.{lowers_row}
 use Rattle.dl_net.proofs.RowLemmas.{row_defends}
 use Rattle.dl_net.proofs.graph.Graph.defended_len.Goals as goal

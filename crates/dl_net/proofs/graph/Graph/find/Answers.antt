@@ -5,8 +5,8 @@ use Rattle.dl_lit.specs.declared.literal.Literal.{Literal}
 use Rattle.dl_lit.specs.Literal.{literal_eq}
 use Rattle.dl_net.specs.Numbers.{NetLists, number}
 use Rattle.dl_net.specs.GraphNames.{numbering}
-use Rattle.dl_net.specs.Named.{number_in}
-use Rattle.dl_net.proofs.NameLemmas.{found_at, number_found}
+use Rattle.dl_names.specs.Paired.{number_in}
+use Rattle.dl_names.proofs.NameLemmas.{found_at, number_found}
 use Rattle.dl_net.proofs.graph.Graph.find.Goals as goal
 
 find_there : (o : Option ℕ) (ls : List Literal) (q : Literal) → IsDistinct ls → o ≡ position (literal_eq q) ls

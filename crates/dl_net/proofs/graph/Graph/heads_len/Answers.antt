@@ -1,7 +1,7 @@
 use Rattle.std.proofs.Common.{◌≡◌, List, length, ap, subst, ◌∙◌, arith}
 use Rattle.std.proofs.Math.ListN.{length-map}
 use Rattle.dl_lit.specs.declared.literal.Literal.{Literal}
-use Rattle.dl_net.specs.Rows.{places}
+use Rattle.dl_rows.specs.Rows.{places}
 use Rattle.dl_net.specs.Numbers.{NetLists}
 use Rattle.dl_net.specs.Named.{head_row, line_in}
 use Rattle.dl_net.specs.Lines.{Line, heads_row}

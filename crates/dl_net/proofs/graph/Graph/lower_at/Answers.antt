@@ -1,8 +1,8 @@
 use Rattle.std.proofs.Common.{◌≡◌, ℕ, List, ap, subst, ◌∙◌}
 use Rattle.std.specs.Prelude.{slice_get}
-use Rattle.dl_net.specs.Rows.{row}
+use Rattle.dl_rows.specs.Rows.{row}
 use Rattle.dl_net.specs.Numbers.{NetLists, lowers_row}
-use Rattle.dl_net.specs.Lines.{list_of}
+use Rattle.dl_rows.specs.Tables.{list_of}
 use Rattle.dl_net.specs.KeptGraph.{theory_of, graph_of}
 use Rattle.dl_net.proofs.RowLemmas.{get_or-rows}
 use Rattle.dl_net.proofs.graph.Graph.lower_at.Goals as goal

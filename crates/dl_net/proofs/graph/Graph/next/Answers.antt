@@ -2,7 +2,7 @@ use Rattle.std.proofs.Common.{◌≡◌, ◌<◌, ℕ, Bool, true, false, Option
 use Rattle.std.specs.Prelude.{IsSome, slice_get}
 use Rattle.std.proofs.lemmas.Option.{slice_get-get_or, get_or_from_slice_get}
 use Rattle.dl_theory.specs.Lists.{can_support}
-use Rattle.dl_net.specs.Rows.{row, places}
+use Rattle.dl_rows.specs.Rows.{row, places}
 use Rattle.dl_net.specs.Numbers.{NetLists, rule_at, lowers_row, defends_row, body_row, next}
 use Rattle.dl_net.specs.declared.link.Link.{Link}
 use Rattle.dl_net.proofs.RowLemmas.{row_defends}

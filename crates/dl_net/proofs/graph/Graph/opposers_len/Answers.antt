@@ -1,5 +1,5 @@
 use Rattle.std.proofs.Common.{length, sym, ap, ◌∙◌, arith}
-use Rattle.dl_net.specs.Rows.{places}
+use Rattle.dl_rows.specs.Rows.{places}
 use Rattle.dl_net.specs.Named.{head_row}
 use Rattle.dl_net.proofs.FindLemmas.{opposers_are, opposers_none}
 use Rattle.dl_net.proofs.graph.Graph.opposers_len.Goals as goal

@@ -1,10 +1,9 @@
 use Rattle.std.proofs.Common.{◌≡◌, ◌<◌, ℕ, List, length, sym, ap, subst, ◌∙◌, arith}
 use Rattle.dl_lit.specs.declared.literal.Literal.{Literal}
-use Rattle.dl_net.specs.Above.{flip}
+use Rattle.dl_names.specs.Paired.{flip, number_in}
 use Rattle.dl_net.specs.Numbers.{NetLists, no_literal, number_of_other}
 use Rattle.dl_net.specs.GraphNames.{numbering}
-use Rattle.dl_net.specs.Named.{number_in}
-use Rattle.dl_net.proofs.NameLemmas.{paired_at, number_at}
+use Rattle.dl_names.proofs.NameLemmas.{paired_at, number_at}
 use Rattle.dl_net.proofs.graph.Graph.other.Goals as goal
 
 pub returns-clause-other : goal.returns-clause-other

@@ -1,8 +1,8 @@
 use Rattle.std.proofs.Common.{◌≡◌, ℕ, true, List, length, get_or, ap, subst, ◌∙◌, arith, refl, inl, inr}
 use Rattle.std.proofs.lemmas.Bool.{cases_lt}
-use Rattle.dl_net.specs.Rows.{row}
+use Rattle.dl_rows.specs.Rows.{row}
 use Rattle.dl_net.specs.Numbers.{NetLists, no_rule, uppers_row}
-use Rattle.dl_net.specs.Lines.{list_of}
+use Rattle.dl_rows.specs.Tables.{list_of}
 use Rattle.dl_net.specs.KeptGraph.{theory_of, graph_of}
 use Rattle.dl_net.proofs.RowLemmas.{row_in, row_past, get_or-rows}
 use Rattle.dl_net.proofs.UpperLemmas.{uppers_short}

@@ -1,6 +1,6 @@
 use Rattle.std.proofs.Common.{◌≡◌, List, length, ap, subst, ◌∙◌}
 use Rattle.dl_lit.specs.declared.literal.Literal.{Literal}
-use Rattle.dl_net.specs.Rows.{places}
+use Rattle.dl_rows.specs.Rows.{places}
 use Rattle.dl_net.specs.Numbers.{NetLists, body_row}
 use Rattle.dl_net.specs.Named.{line_in}
 use Rattle.dl_net.specs.Lines.{Line, uses_row}

@@ -1,8 +1,8 @@
 use Rattle.std.proofs.Common.{◌≡◌, ℕ, ◌<◌, List, [], ◌∷◌, ◌++◌, length, get_or, set, ap, ◌∙◌, arith}
 use Rattle.std.specs.Prelude.{Contains}
-use Rattle.dl_net.specs.Lines.{IndexLists, list_of}
+use Rattle.dl_net.specs.Lines.{IndexLists}
+use Rattle.dl_rows.specs.Tables.{list_of, RowLists}
 use Rattle.dl_net.specs.Indexes.{by_place, place_in}
-use Rattle.dl_net.specs.Tables.{RowLists}
 use Rattle.dl_net.proofs.LinkLemmas.{Puts, HasLinks-put, by_place-put}
 use Rattle.dl_net.proofs.OrderLemmas.{order_length, read_member}
 use Rattle.dl_net.proofs.index.Index.append_link.Goals as goal

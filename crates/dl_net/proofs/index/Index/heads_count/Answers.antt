@@ -1,7 +1,7 @@
 use Rattle.std.proofs.Common.{◌≡◌, ◌<◌, ◌≤◌, ℕ, List, length, sym, ap, subst, ◌∙◌, arith}
 use Rattle.std.specs.Prelude.{All, filter}
-use Rattle.dl_net.specs.Rows.{places}
-use Rattle.dl_net.specs.Tables.{list_at}
+use Rattle.dl_rows.specs.Rows.{places}
+use Rattle.dl_rows.specs.Tables.{list_at}
 use Rattle.dl_net.specs.Lines.{IndexLists, kind_row, passes, line_at}
 use Rattle.dl_net.proofs.PlaceLemmas.{kinds_are, heads_few, heads_there, have_places}
 use Rattle.dl_net.proofs.index.Index.heads_count.Goals as goal

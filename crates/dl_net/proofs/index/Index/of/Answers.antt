@@ -1,8 +1,8 @@
 use Rattle.std.proofs.Common.{◌≡◌, ℕ, List, [], length, get_or, map, ap, ◌∙◌}
-use Rattle.dl_net.specs.Tables.{RowLists, list_at}
+use Rattle.dl_rows.specs.Tables.{RowLists, list_at}
 use Rattle.dl_net.proofs.LineLemmas.{none_linked}
 use Rattle.dl_net.proofs.LinkLemmas.{HasLinks-none}
-use Rattle.dl_net.proofs.TableLemmas.{constant_at}
+use Rattle.dl_rows.proofs.TableLemmas.{constant_at}
 use Rattle.dl_net.proofs.index.Index.of.Goals as goal
 
 -- lists that were made with room are empty

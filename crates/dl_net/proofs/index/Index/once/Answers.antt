@@ -1,7 +1,7 @@
 use Rattle.std.proofs.Common.{◌≡◌, List, ℕ, length, refl, None, Some, sym, ap, subst, ◌∙◌, arith}
 use Rattle.std.specs.Prelude.{slice_get}
 use Rattle.std.proofs.lemmas.Option.{slice_get_past, slice_get_read}
-use Rattle.dl_net.specs.Rows.{row}
+use Rattle.dl_rows.specs.Rows.{row}
 use Rattle.dl_net.specs.Lines.{no_line, uses_row}
 use Rattle.dl_net.proofs.RowLemmas.{row_past, row_in}
 use Rattle.dl_net.proofs.index.Index.once.Goals as goal

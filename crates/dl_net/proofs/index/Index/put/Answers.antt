@@ -5,7 +5,7 @@ use Rattle.dl_net.specs.declared.entry.Room.{Room}
 use Rattle.dl_net.specs.Lines.{IndexLists, line_at, Line}
 use Rattle.dl_net.specs.Indexes.{by_place, HasRules, HasLinks}
 use Rattle.dl_net.specs.KeptIndex.{HasRoom, HasRuleRoom, ready_of}
-use Rattle.dl_net.proofs.Keeping.{KeepsLists-refl}
+use Rattle.dl_rows.proofs.Keeping.{KeepsLists-refl}
 use Rattle.dl_net.proofs.RuleLemmas.{HasRules-add, HasLinks-more, lines-add, by_place-add}
 use Rattle.dl_net.proofs.index.Index.put.Goals as goal
 

@@ -1,7 +1,8 @@
 use Rattle.std.proofs.Common.{◌≡◌, [], ◌∷◌, ◌++◌, length, set, sym, subst}
 use Rattle.std.specs.Prelude.{IfSome}
 use Rattle.dl_net.specs.declared.entry.Room.{Room}
-use Rattle.dl_net.specs.Lines.{IndexLists, list_of}
+use Rattle.dl_net.specs.Lines.{IndexLists}
+use Rattle.dl_rows.specs.Tables.{list_of}
 use Rattle.dl_net.specs.Indexes.{by_place}
 use Rattle.dl_net.specs.KeptIndex.{HasRoom, HasLinkRoom, linking_of}
 use Rattle.dl_net.proofs.LinkLemmas.{HasLinks-put, by_place-put}

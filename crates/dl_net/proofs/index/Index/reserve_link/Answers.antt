@@ -2,11 +2,11 @@ use Rattle.std.proofs.Common.{◌≡◌, ℕ, ◌<◌, Some, List, length, ap, s
 use Rattle.dl_net.specs.Lines.{IndexLists, KeepsRules}
 use Rattle.dl_net.specs.Indexes.{place_in}
 use Rattle.dl_net.specs.KeptIndex.{index_of}
-use Rattle.dl_net.specs.Tables.{RowLists, KeepsLists}
+use Rattle.dl_rows.specs.Tables.{RowLists, KeepsLists}
 use Rattle.dl_net.specs.declared.index.Index.TheInside.{Inside}
 use Rattle.dl_net.specs.declared.entry.Room.{Room}
 use Rattle.dl_net.specs.declared.entry.Room.TheVariants.{Nothing, ForLink}
-use Rattle.dl_net.proofs.Keeping.{KeepsLists-refl}
+use Rattle.dl_rows.proofs.Keeping.{KeepsLists-refl}
 use Rattle.dl_net.proofs.RuleLemmas.{HasLinks-more, by_place-kept}
 use Rattle.dl_net.proofs.OrderLemmas.{order_length, read_member}
 use Rattle.dl_net.proofs.index.Index.reserve_link.Goals as goal

@@ -1,6 +1,6 @@
 use Rattle.std.proofs.Common.{◌≡◌, ◌<◌, ℕ, List, length, sym, subst, arith, set}
-use Rattle.dl_net.specs.Tables.{drop_item}
-use Rattle.dl_net.specs.Lines.{IndexLists, list_of}
+use Rattle.dl_rows.specs.Tables.{drop_item, list_of}
+use Rattle.dl_net.specs.Lines.{IndexLists}
 use Rattle.dl_net.specs.Indexes.{by_place}
 use Rattle.dl_net.proofs.TakeLemmas.{HasLinks-drop, by_place-drop}
 use Rattle.dl_net.proofs.OrderLemmas.{order_length}

@@ -2,8 +2,8 @@ use Rattle.std.proofs.Common.{◌≡◌, false, ◌<◌, ℕ, List, [], length, 
 use Rattle.std.specs.Prelude.{All, filter}
 use Rattle.std.proofs.lemmas.List.{get_or-map}
 use Rattle.dl_theory.specs.Lists.{can_support}
-use Rattle.dl_net.specs.Tables.{list_at}
-use Rattle.dl_net.specs.Lines.{IndexLists, Line, no_line, list_of, passes, line_at}
+use Rattle.dl_rows.specs.Tables.{list_at, list_of}
+use Rattle.dl_net.specs.Lines.{IndexLists, Line, no_line, passes, line_at}
 use Rattle.dl_net.specs.Indexes.{place_in, by_place}
 use Rattle.dl_net.proofs.PlaceLemmas.{supports_are, have_places}
 use Rattle.dl_net.proofs.OrderLemmas.{order_still}

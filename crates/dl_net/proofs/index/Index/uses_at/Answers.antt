@@ -1,7 +1,7 @@
 use Rattle.std.proofs.Common.{◌≡◌, ℕ, List, ap, subst, ◌∙◌}
 use Rattle.std.specs.Prelude.{slice_get}
-use Rattle.dl_net.specs.Rows.{places}
-use Rattle.dl_net.specs.Tables.{list_at}
+use Rattle.dl_rows.specs.Rows.{places}
+use Rattle.dl_rows.specs.Tables.{list_at}
 use Rattle.dl_net.specs.Lines.{IndexLists, uses_row}
 use Rattle.dl_net.proofs.PlaceLemmas.{uses_are, uses_there, have_places}
 use Rattle.dl_net.proofs.OrderLemmas.{places_still}

@@ -1,7 +1,7 @@
 use Rattle.std.proofs.Common.{◌≡◌, length, sym, ap, subst, ◌∙◌}
 use Rattle.std.proofs.Math.ListN.{length-map}
-use Rattle.dl_net.specs.Rows.{places}
-use Rattle.dl_net.specs.Tables.{list_at}
+use Rattle.dl_rows.specs.Rows.{places}
+use Rattle.dl_rows.specs.Tables.{list_at}
 use Rattle.dl_net.specs.Lines.{IndexLists, uses_row}
 use Rattle.dl_net.specs.Indexes.{place_in}
 use Rattle.dl_net.proofs.PlaceLemmas.{uses_are}

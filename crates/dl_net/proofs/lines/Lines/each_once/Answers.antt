@@ -1,6 +1,6 @@
 use Rattle.std.proofs.Common.{ap, ◌∙◌}
 use Rattle.dl_theory.specs.declared.rule.Kind.TheVariants.{Defeater}
-use Rattle.dl_net.specs.Counting.{each_once}
+use Rattle.dl_rows.specs.Counting.{each_once}
 use Rattle.dl_net.specs.Lines.{Line}
 use Rattle.dl_net.proofs.LineLemmas.{in_bodies, item_is}
 use Rattle.dl_net.proofs.lines.Lines.each_once.Goals as goal

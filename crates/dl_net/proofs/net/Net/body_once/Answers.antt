@@ -1,6 +1,6 @@
 use Rattle.std.proofs.Common.{◌≡◌, subst}
 use Rattle.std.specs.Prelude.{slice_get}
-use Rattle.dl_net.specs.Rows.{row}
+use Rattle.dl_rows.specs.Rows.{row}
 use Rattle.dl_net.specs.Numbers.{NetLists, body_row}
 use Rattle.dl_net.proofs.net.Net.body_once.Goals as goal
 

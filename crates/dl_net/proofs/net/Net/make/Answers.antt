@@ -6,7 +6,8 @@ use Rattle.dl_lit.specs.Names.{Numbering}
 use Rattle.dl_theory.specs.Lists.{TheoryLists}
 use Rattle.dl_net.specs.Above.{lower_step, upper_step}
 use Rattle.dl_net.specs.Lines.{IndexLists}
-use Rattle.dl_net.specs.Named.{IsPaired, HasLiterals, line_in}
+use Rattle.dl_names.specs.Paired.{IsPaired}
+use Rattle.dl_net.specs.Named.{HasLiterals, line_in}
 use Rattle.dl_net.proofs.net.Net.make.Goals as goal
 
 pub whole-requires : goal.whole-requires

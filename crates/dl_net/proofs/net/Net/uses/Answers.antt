@@ -1,6 +1,6 @@
 use Rattle.std.proofs.Common.{◌≡◌, subst}
 use Rattle.std.specs.Prelude.{slice_get}
-use Rattle.dl_net.specs.Rows.{places}
+use Rattle.dl_rows.specs.Rows.{places}
 use Rattle.dl_net.specs.Numbers.{NetLists, body_row}
 use Rattle.dl_net.proofs.net.Net.uses.Goals as goal
 

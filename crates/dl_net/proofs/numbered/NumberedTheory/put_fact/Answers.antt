@@ -7,11 +7,11 @@ use Rattle.dl_theory.specs.declared.edit.Edit.TheVariants.{AddFact}
 use Rattle.dl_theory.specs.Lists.{TheoryLists}
 use Rattle.dl_theory.specs.Edits.{IsAccepted, after_edit}
 use Rattle.dl_net.specs.Numbers.{NetLists}
-use Rattle.dl_net.specs.Named.{IsNear}
+use Rattle.dl_names.specs.Paired.{IsNear}
 use Rattle.dl_net.specs.Lines.{IndexLists}
 use Rattle.dl_net.specs.FromNumbers.{bare_index, literal_in, theory_from, IsLoading}
 use Rattle.dl_net.specs.KeptNumbered.{lists_of, pairs_of}
-use Rattle.dl_net.proofs.NameLemmas.{number_within}
+use Rattle.dl_names.proofs.NameLemmas.{number_within}
 use Rattle.dl_net.proofs.NumberedLemmas.{same_theory, same_numbers, marked_fact, new_fact, put_fact_theory, put_fact_numbers, err_from}
 use Rattle.dl_net.proofs.numbered.NumberedTheory.put_fact.Goals.{else-len-ge-LIMIT-via-then-len-ge-LIMIT+else-not-holds_fact, else-len-ge-LIMIT-via-else-len-ge-LIMIT}
 use Rattle.dl_net.proofs.numbered.NumberedTheory.put_fact.Goals as goal

@@ -11,7 +11,7 @@ use Rattle.dl_theory.specs.Lists.{TheoryLists, labels}
 use Rattle.dl_theory.specs.Pairs.{named, IsWithin}
 use Rattle.dl_theory.specs.Edits.{IsAccepted, after_edit}
 use Rattle.dl_net.specs.Numbers.{NetLists}
-use Rattle.dl_net.specs.Named.{IsNear}
+use Rattle.dl_names.specs.Paired.{IsNear}
 use Rattle.dl_net.specs.Lines.{IndexLists}
 use Rattle.dl_net.specs.FromNumbers.{bare_index, theory_from, IsLoading}
 use Rattle.dl_net.specs.KeptNumbered.{lists_of, pairs_of}

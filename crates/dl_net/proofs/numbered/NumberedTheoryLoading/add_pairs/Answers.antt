@@ -6,10 +6,9 @@ use Rattle.dl_theory.specs.Edits.{AreAccepted, after_edits, additions, IsPairsSt
 use Rattle.dl_theory.proofs.Additions.{changed_whole, answer_keeps}
 use Rattle.dl_net.specs.Numbers.{NetLists}
 use Rattle.dl_net.specs.FromNumbers.{bare_index, with_pairs}
-use Rattle.dl_net.specs.KeptNumbered.{lists_of}
+use Rattle.dl_net.specs.KeptNumbered.{lists_of, IsKeptNumbered}
 use Rattle.dl_net.proofs.NumberedLemmas.{labels_from}
 use Rattle.dl_net.specs.declared.numbered.NumberedTheory.TheInside.{Inside}
-use Rattle.dl_net.specs.KeptNumbered.{IsKeptNumbered}
 use Rattle.dl_net.proofs.numbered.NumberedTheoryLoading.add_pairs.Goals as goal
 
 named : (a : Inside) → IsKeptNumbered a → labels (lists_of a) ≡ a.labels.keys

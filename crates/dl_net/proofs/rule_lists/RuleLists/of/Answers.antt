@@ -1,8 +1,9 @@
 use Rattle.std.proofs.Common.{◌≡◌, ℕ, ◌+◌, ◌<◌, List, [], ◌∷◌, ◌++◌, length, take, map, set, cond, sym, ap, subst, ◌∙◌, arith}
 use Rattle.std.proofs.Math.ListN.{length-map, length-set}
 use Rattle.std.proofs.lemmas.List.{take_more, length-take-le}
-use Rattle.dl_net.specs.Tables.{RowLists, list_at}
-use Rattle.dl_net.specs.Lines.{Line, no_line, line_at, is_in, IsWithin}
+use Rattle.dl_rows.specs.Tables.{RowLists, list_at}
+use Rattle.dl_net.specs.Lines.{Line, no_line, line_at, IsWithin}
+use Rattle.dl_rows.specs.Counting.{is_in}
 use Rattle.dl_net.specs.Indexes.{HasRules}
 use Rattle.dl_net.proofs.RuleLemmas.{HasRules-add, lines-add}
 use Rattle.dl_net.proofs.rule_lists.RuleLists.of.Goals as goal

@@ -1,5 +1,5 @@
 use Rattle.std.proofs.Common.{ℕ, List, [], get_or, ap, ◌∙◌}
-use Rattle.dl_net.proofs.TableLemmas.{constant_at}
+use Rattle.dl_rows.proofs.TableLemmas.{constant_at}
 use Rattle.dl_net.proofs.rule_lists.RuleLists.with_room.Goals as goal
 
 pub returns-clause-heads : goal.returns-clause-heads

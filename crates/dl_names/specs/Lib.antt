@@ -1,0 +1,6 @@
+pub mod Paired
+pub mod Pairs
+pub mod Stems
+pub mod Atoms
+pub mod KeptAtoms
+pub mod KeptNames

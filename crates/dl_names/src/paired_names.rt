@@ -1,0 +1,237 @@
+//! Numbers of literals.
+
+ghost use Rattle.std.specs.Prelude.{◌≡◌, ◌<◌, ◌+◌, ◌*◌, ◌^◌, ◌++◌, ◌∷◌, [], Some, false, IfOk, IfSome, IfNone, OnOk, OnErr, IsTrue, Contains, length, position, slice_get};
+ghost use Rattle.std.specs.Option.{option_copied, option_map};
+ghost use Rattle.dl_base.specs.Paths.{IsDistinct};
+ghost use Rattle.dl_lit.specs.Borrowed.{literal_of};
+ghost use Rattle.dl_lit.specs.Literal.{literal_eq, complement};
+ghost use Rattle.dl_lit.specs.Names.{no_names, with_both};
+ghost use Rattle.dl_names.specs.Paired.{IsPaired};
+ghost use Rattle.dl_names.specs.Pairs.{firsts_of, pairs_of};
+
+use crate::both::Both;
+use crate::pair_set::PairSet;
+use crate::whole_pairs::WholePairs;
+use dl_base::Memory;
+use dl_lit::{Literal, LiteralRef};
+use std::alloc::Global;
+use std::marker::Model;
+
+/// As many pairs as have numbers of 32 bits.
+const PAIR_LIMIT: usize = 0x8000_0000;
+
+/// Literals by number, each beside its complement. One look-up finds both.
+pub struct PairedNames<P: PairSet> {
+    pairs: P,
+    frozen: bool,
+}
+
+impl<P: PairSet> Drop for PairedNames<P> {
+    fn drop(self) {
+        let PairedNames {
+            pairs: _,
+            frozen: _,
+        } = self;
+    }
+}
+
+impl<P: PairSet> Model for PairedNames<P> {
+    ghost use Rattle.dl_lit.specs.Names.{Numbering};
+
+    ghost Value = { Numbering };
+
+    ghost use Rattle.dl_names.specs.KeptNames.{numbering_of, IsKeptNames};
+
+    ghost view = { numbering_of P.firsts };
+
+    ghost invariant = { IsKeptNames P.firsts };
+}
+
+impl<P: PairSet> PairedNames<P> {
+    /// No literals.
+    pub fn make(alloc: Global) -> PairedNames<P>
+        ensures { result ≡ no_names }
+    {
+        PairedNames {
+            pairs: P::make(alloc),
+            frozen: false,
+        }
+    }
+
+    /// No literals, with room for so many pairs. `Memory` where there is none for them.
+    pub fn with_room(alloc: Global, pairs: usize) -> Result<PairedNames<P>, Memory>
+        ensures { IfOk result (λ names. names ≡ no_names) }
+    {
+        let mut empty = P::make(alloc);
+        empty.reserve(pairs)?;
+        Ok(PairedNames {
+            pairs: empty,
+            frozen: false,
+        })
+    }
+
+    /// How many literals have numbers: all below it.
+    pub fn len(&self) -> usize
+        ensures len { result ≡ length self.now.literals }
+        ensures small { result < 2 ^ 63 }
+        ensures distinct { IsDistinct self.now.literals }
+        ensures paired { IsPaired self.now.literals }
+    {
+        2 * self.pairs.len()
+    }
+
+    /// The literal with this number; `None` exactly past the last.
+    #[inline(always)]
+    pub fn literal(&self, number: usize) -> Option<LiteralRef<'_>>
+        ensures { option_map literal_of result ≡ slice_get self.now.literals number }
+    {
+        match self.pairs.first(number / 2) {
+            None => None,
+            Some(first) => {
+                if number % 2 == 0 {
+                    Some(first)
+                } else {
+                    Some(LiteralRef {
+                        positive: !first.positive,
+                        ..first
+                    })
+                }
+            }
+        }
+    }
+
+    /// The number of a literal; `None` exactly where it has none.
+    #[inline(always)]
+    pub fn find(&self, literal: &Literal) -> Option<usize>
+        ensures number { result ≡ position (literal_eq literal.now) self.now.literals }
+        ensures absent { IfNone result (¬ Contains self.now.literals literal.now) }
+        ensures small { IfSome result (λ n. n < 2 ^ 32) }
+        ensures distinct { IsDistinct self.now.literals }
+        ensures paired { IsPaired self.now.literals }
+    {
+        match self.pairs.find(literal) {
+            None => None,
+            Some((place, positive)) => {
+                if positive == literal.positive {
+                    Some(2 * place)
+                } else {
+                    Some(2 * place + 1)
+                }
+            }
+        }
+    }
+
+    /// The number of a literal, which gets one beside its complement if it has none. One that is likely to be new is put in at once, and
+    /// sought only where it was there before; any other is sought first. So it mostly costs one look-up, and no copy that is not kept.
+    /// `Memory` where there is none for it, or where no more can be numbered, leaves the literals as they were.
+    #[inline(always)]
+    pub fn number(&mut self, literal: &Literal, likely_new: bool) -> Result<usize, Memory>
+        ensures named { OnOk result (self.new.literals ≡ with_both self.old.literals literal.now) }
+        ensures number { IfOk result (λ n. position (literal_eq literal.now) self.new.literals ≡ Some n) }
+        ensures small { IfOk result (λ n. n < 2 ^ 32) }
+        ensures kept { OnErr result (self.new.literals ≡ self.old.literals) }
+        ensures same { Contains self.old.literals literal.now → self.new ≡ self.old }
+        ensures distinct { IsDistinct self.new.literals }
+        ensures paired { IsPaired self.new.literals }
+    {
+        if likely_new {
+            return self.put_or_find(literal, false);
+        }
+        match self.find(literal) {
+            Some(number) => Ok(number),
+            None => self.put_or_find(literal, true),
+        }
+    }
+
+    /// The number of a literal, as `number` gives it: put in, or else found.
+    #[inline(always)]
+    fn put_or_find(&mut self, literal: &Literal, likely_sought: bool) -> Result<usize, Memory>
+        ensures named { OnOk result (self.new.literals ≡ with_both self.old.literals literal.now) }
+        ensures number { IfOk result (λ n. position (literal_eq literal.now) self.new.literals ≡ Some n) }
+        ensures small { IfOk result (λ n. n < 2 ^ 32) }
+        ensures kept { OnErr result (self.new.literals ≡ self.old.literals) }
+        ensures same { Contains self.old.literals literal.now → self.new ≡ self.old }
+        ensures distinct { IsDistinct self.new.literals }
+        ensures paired { IsPaired self.new.literals }
+    {
+        let _len = self.len();
+        match self.put(literal, likely_sought)? {
+            Some(number) => Ok(number),
+            None => match self.find(literal) {
+                Some(number) => Ok(number),
+                None => Err(Memory),
+            },
+        }
+    }
+
+    /// Puts a literal in, beside its complement, and gives its number; `None` where it was there, or where no more can be numbered.
+    #[inline(always)]
+    fn put(&mut self, literal: &Literal, likely_sought: bool) -> Result<Option<usize>, Memory>
+        ensures absent { IfOk result (λ put. IfSome put (λ n. ¬ Contains self.old.literals literal.now)) }
+        ensures added { IfOk result (λ put. IfSome put (λ n. self.new.literals ≡ self.old.literals ++ literal.now ∷ complement literal.now ∷ [])) }
+        ensures number { IfOk result (λ put. IfSome put (λ n. n ≡ length self.old.literals)) }
+        ensures small { IfOk result (λ put. IfSome put (λ n. n < 2 ^ 32)) }
+        ensures same { IfOk result (λ put. IfNone put (self.new ≡ self.old)) }
+        ensures kept { OnErr result (self.new ≡ self.old) }
+    {
+        if self.pairs.len() >= PAIR_LIMIT {
+            return Ok(None);
+        }
+        match self.pairs.put(literal, likely_sought)? {
+            None => Ok(None),
+            Some(place) => {
+                self.frozen = false;
+                Ok(Some(2 * place))
+            }
+        }
+    }
+
+    /// From here on the names can be shared.
+    pub fn freeze(&mut self) -> Result<(), Memory>
+        ensures literals { self.new.literals ≡ self.old.literals }
+        ensures frozen { OnOk result (IsTrue self.new.frozen) }
+    {
+        self.frozen = true;
+        Ok(())
+    }
+}
+
+impl PairedNames<WholePairs> {
+    /// The literal with this number, which is kept as one; `None` exactly past the last.
+    pub fn whole(&self, number: usize) -> Option<&Literal>
+        ensures { option_copied result ≡ slice_get self.now.literals number }
+    {
+        match self.pairs.set.get_index(number / 2) {
+            None => None,
+            Some(both) => {
+                if number % 2 == 0 {
+                    Some(both.first())
+                } else {
+                    Some(both.second())
+                }
+            }
+        }
+    }
+
+    /// The same literals at the same numbers once more, frozen. `Memory` where there is none for them.
+    pub fn share(&self) -> Result<PairedNames<WholePairs>, Memory>
+        requires { IsTrue self.now.frozen }
+        ensures { IfOk result (λ names. names ≡ self.now) }
+    {
+        let mut names = copied(*self.pairs.set.allocator(), self.pairs.set.as_slice())?;
+        names.frozen = true;
+        Ok(names)
+    }
+}
+
+/// The names of these pairs.
+fn copied(alloc: Global, pairs: &[Both]) -> Result<PairedNames<WholePairs>, Memory>
+    requires { IsDistinct (pairs_of (firsts_of pairs.now)) }
+    ensures { IfOk result (λ names. names.literals ≡ pairs_of (firsts_of pairs.now)) }
+{
+    let mut names = PairedNames::with_room(alloc, pairs.len())?;
+    for both in pairs {
+        names.number(both.first(), true)?;
+    }
+    Ok(names)
+}

@@ -1,0 +1,315 @@
+-- Lists that stand one behind another.
+use Rattle.std.proofs.Common.{◌≡◌, ◌≢◌, ℕ, ◌+◌, ◌<◌, ◌≤◌, List, [], ◌∷◌, ◌++◌, length, get_or, take, drop, set, map, rules, refl, sym, ap, subst, ◌∙◌, arith, inl, inr, length-append, get_or-set_same, get_or-set_other}
+use Rattle.std.specs.Prelude.{All, cond, ◌==◌}
+use Rattle.std.proofs.lemmas.List.Elements.{All-head, All-tail}
+use Rattle.std.proofs.Math.ListN.{length-set, length-map, get_or-append}
+use Rattle.std.proofs.lemmas.Bool.{cases_eq, cases_lt}
+use Rattle.std.proofs.lemmas.List.{get_or-take, get_or-drop, get_or_default, get_or_past, get_or_push, length-take, length-drop, map-set, set-set, drop-set-add, take_more_set, get_or-map, take-append-le, length-take-le, drop_at, places}
+use Rattle.std.proofs.lemmas.Slice.{take-put_mid_below, drop-put_mid}
+use borrow.Rule.Slice.PartMut.{put_mid, post_of}
+use Rattle.std.proofs.lemmas.Grind.{same_number_lists}
+use Rattle.dl_rows.specs.declared.packed_rows.Span.{Span}
+use Rattle.dl_rows.specs.Packed.{no_span, in_span, span_at, room_end, ArePacked}
+use Rattle.dl_rows.specs.Tables.{drop_item, list_of}
+use Rattle.dl_rows.proofs.TableLemmas.{map_changed, written_at}
+
+-- ---- the numbers of one list
+
+pub in_span_length : (items : List ℕ) (s : Span) → s.start + s.len ≤ length items → length (in_span items s) ≡ s.len
+in_span_length items s h = omega (arith, length-take s.len (drop s.start items), length-drop s.start items, h)
+
+in_span_place : (items : List ℕ) (s : Span) (k : ℕ) → k < s.len → get_or (in_span items s) k 0 ≡ get_or items (s.start + k) 0
+in_span_place items s k lt = get_or-take s.len (drop s.start items) k 0 lt ∙ get_or-drop s.start items k 0
+
+-- a list sees its own places alone
+in_span_agrees : (items items' : List ℕ) (s : Span) → s.start + s.len ≤ length items → length items' ≡ length items
+    → ((k : ℕ) → k < s.len → get_or items' (s.start + k) 0 ≡ get_or items (s.start + k) 0) → in_span items' s ≡ in_span items s
+in_span_agrees items items' s h long same =
+    let long' : s.start + s.len ≤ length items' = omega (arith, h, long) in
+    same_number_lists (in_span items' s) (in_span items s) (in_span_length items' s long' ∙ sym (in_span_length items s h))
+    (λ k lt. let less : k < s.len = omega (arith, lt, in_span_length items' s long') in
+    in_span_place items' s k less ∙ same k less ∙ sym (in_span_place items s k less))
+
+-- one number more behind the last
+pub in_span_more : (items : List ℕ) (s : Span) (x : ℕ) → s.start + s.len < length items
+    → in_span (set items (s.start + s.len) x) (record { start = s.start; len = s.len + 1 }) ≡ in_span items s ++ x ∷ []
+in_span_more items s x h =
+    ap (take (s.len + 1)) (drop-set-add s.start items s.len x) ∙ take_more_set (drop s.start items) s.len x (omega (arith, length-drop s.start items, h))
+
+-- ---- what stands where
+
+module _ (spans : List Span) (all : ℕ) (p : ArePacked spans all) (h : ℕ) (within : h < length spans) where
+  room_is : h + 1 < length spans → room_end spans h all ≡ (span_at spans (h + 1)).start
+  room_is lt = ap (λ (s : Span). s.start) (get_or_default spans (h + 1) (record { start = all; len = 0 }) no_span lt)
+
+  room_last : length spans ≤ h + 1 → room_end spans h all ≡ all
+  room_last past = ap (λ (s : Span). s.start) (get_or_past spans (h + 1) (record { start = all; len = 0 }) past)
+
+  pub room_within : room_end spans h all ≤ all
+  room_within =
+      elim (cases_lt (h + 1) (length spans)) [
+        | inl lt ↦ omega (arith, room_is lt, p.within (h + 1))
+        | inr past ↦ omega (arith, room_last past)
+      ]
+
+  -- a list ends where its room does, or before
+  pub ends_in_room : (span_at spans h).start + (span_at spans h).len ≤ room_end spans h all
+  ends_in_room =
+      elim (cases_lt (h + 1) (length spans)) [
+        | inl lt ↦ omega (arith, room_is lt, p.rising h (h + 1) (omega arith) lt)
+        | inr past ↦ omega (arith, room_last past, p.within h)
+      ]
+
+  -- the room ends before each list behind
+  room_before : (j : ℕ) → h < j → j < length spans → room_end spans h all ≤ (span_at spans j).start
+  room_before j behind lt =
+      elim (cases_eq j (h + 1)) [
+        | inl e ↦ let next : room_end spans h all ≡ (span_at spans (h + 1)).start = room_is (omega (arith, e, lt)) in
+            subst (λ k. room_end spans h all ≤ (span_at spans k).start) (sym e) (omega (arith, next))
+        | inr d ↦ omega (arith, room_is (omega (arith, behind, lt)), p.rising (h + 1) j (omega (arith, behind, d)) lt)
+      ]
+
+  module _ (s : Span) (start : s.start ≡ (span_at spans h).start) (fits : s.start + s.len ≤ room_end spans h all) where
+    changed_here : span_at (set spans h s) h ≡ s
+    changed_here = get_or-set_same spans h s no_span within
+
+    changed_other : (i : ℕ) → i ≢ h → span_at (set spans h s) i ≡ span_at spans i
+    changed_other i d = get_or-set_other spans h i s no_span d
+
+    rising_here : (j : ℕ) → h < j → j < length spans → (span_at (set spans h s) h).start + (span_at (set spans h s) h).len ≤ (span_at (set spans h s) j).start
+    rising_here j behind lt =
+        let here : span_at (set spans h s) h ≡ s = changed_here in
+        let there : span_at (set spans h s) j ≡ span_at spans j = changed_other j (λ e. absurd (omega (arith, e, behind))) in
+        rw here (rw there (omega (arith, fits, room_before j behind lt)))
+
+    -- a list takes another length in its room
+    pub packed_changed : ArePacked (set spans h s) all
+    packed_changed = record {
+      rising = λ i j less lt.
+          let lt' : j < length spans = omega (arith, lt, length-set spans h s) in
+          elim (cases_eq i h) [
+            | inl e ↦
+                subst (λ k. (span_at (set spans h s) k).start + (span_at (set spans h s) k).len ≤ (span_at (set spans h s) j).start) (sym e)
+                (rising_here j (omega (arith, e, less)) lt')
+            | inr d ↦
+                let there : span_at (set spans h s) i ≡ span_at spans i = changed_other i d in
+                elim (cases_eq j h) [
+                  | inl e ↦
+                      let here : span_at (set spans h s) j ≡ s = ap (span_at (set spans h s)) e ∙ changed_here in
+                      let was : (span_at spans j).start ≡ s.start = ap (λ k. (span_at spans k).start) e ∙ sym start in
+                      rw there (rw here (omega (arith, p.rising i j less lt', was)))
+                  | inr e ↦
+                      let other : span_at (set spans h s) j ≡ span_at spans j = changed_other j e in
+                      rw there (rw other (p.rising i j less lt'))
+                ]
+          ];
+      within = λ i.
+          elim (cases_eq i h) [
+            | inl e ↦
+                let here : span_at (set spans h s) i ≡ s = ap (span_at (set spans h s)) e ∙ changed_here in
+                rw here (omega (arith, fits, room_within))
+            | inr d ↦
+                let there : span_at (set spans h s) i ≡ span_at spans i = changed_other i d in
+                rw there (p.within i)
+          ];
+    }
+
+-- ---- one list is written, and all others stay
+
+module _ (spans : List Span) (items items' : List ℕ) (p : ArePacked spans (length items)) (h : ℕ) (within : h < length spans)
+    (long : length items' ≡ length items) (below : (k : ℕ) → k < (span_at spans h).start → get_or items' k 0 ≡ get_or items k 0)
+    (above : (k : ℕ) → room_end spans h (length items) ≤ k → get_or items' k 0 ≡ get_or items k 0) where
+  others_stay : (i : ℕ) → i < length spans → i ≢ h → in_span items' (span_at spans i) ≡ in_span items (span_at spans i)
+  others_stay i lt d =
+      in_span_agrees items items' (span_at spans i) (p.within i) long
+      (λ k less. elim (cases_lt i h) [
+        | inl before ↦ below ((span_at spans i).start + k) (omega (arith, less, p.rising i h before within))
+        | inr behind ↦
+            above ((span_at spans i).start + k) (omega (arith, room_before spans (length items) p h within i (omega (arith, behind, d)) lt))
+      ])
+
+  pub packed_written : (s : Span) (y : List ℕ) → in_span items' s ≡ y → map (in_span items') (set spans h s) ≡ set (map (in_span items) spans) h y
+  packed_written s y is =
+      map_changed (in_span items) (in_span items') (set spans h s) h no_span y (omega (arith, within, length-set spans h s))
+      (ap (in_span items') (get_or-set_same spans h s no_span within) ∙ is)
+      (λ i lt d. ap (in_span items') (get_or-set_other spans h i s no_span d) ∙ others_stay i (omega (arith, lt, length-set spans h s)) d
+      ∙ sym (ap (in_span items) (get_or-set_other spans h i s no_span d)))
+      ∙ ap (λ (ls : List (List ℕ)). set ls h y) (map-set (in_span items) spans h s)
+      ∙ set-set (map (in_span items) spans) h (in_span items s) y
+
+-- ---- lists that are made, and empty
+
+module _ (spans : List Span) (all more : ℕ) (p : ArePacked spans all) (room : all ≤ more) where
+  pushed_last : (i : ℕ) → i ≡ length spans → span_at (spans ++ record { start = all; len = 0 } ∷ []) i ≡ record { start = all; len = 0 }
+  pushed_last i e = get_or_push spans (record { start = all; len = 0 }) no_span i (sym e)
+
+  pushed_other : (i : ℕ) → i < length spans → span_at (spans ++ record { start = all; len = 0 } ∷ []) i ≡ span_at spans i
+  pushed_other i lt = get_or-append spans (record { start = all; len = 0 } ∷ []) no_span i lt
+
+  pushed_long : length (spans ++ record { start = all; len = 0 } ∷ []) ≡ length spans + 1
+  pushed_long = length-append spans (record { start = all; len = 0 } ∷ [])
+
+  pushed_past : (i : ℕ) → length spans < i → span_at (spans ++ record { start = all; len = 0 } ∷ []) i ≡ no_span
+  pushed_past i past = get_or_past (spans ++ record { start = all; len = 0 } ∷ []) i no_span (omega (arith, pushed_long, past))
+
+  -- one list more, which is empty and has room for some numbers
+  pub packed_pushed : ArePacked (spans ++ record { start = all; len = 0 } ∷ []) more
+  packed_pushed = record {
+    rising = λ i j less lt.
+        let first : i < length spans = omega (arith, less, lt, pushed_long) in
+        let there : span_at (spans ++ record { start = all; len = 0 } ∷ []) i ≡ span_at spans i = pushed_other i first in
+        elim (cases_eq j (length spans)) [
+          | inl e ↦
+              let last : span_at (spans ++ record { start = all; len = 0 } ∷ []) j ≡ record { start = all; len = 0 } = pushed_last j e in
+              rw there (rw last (p.within i))
+          | inr d ↦
+              let before : j < length spans = omega (arith, lt, pushed_long, d) in
+              let other : span_at (spans ++ record { start = all; len = 0 } ∷ []) j ≡ span_at spans j = pushed_other j before in
+              rw there (rw other (p.rising i j less before))
+        ];
+    within = λ i.
+        elim (cases_eq i (length spans)) [
+          | inl e ↦
+              let last : span_at (spans ++ record { start = all; len = 0 } ∷ []) i ≡ record { start = all; len = 0 } = pushed_last i e in
+              rw last (omega (arith, room))
+          | inr d ↦ elim (cases_lt i (length spans)) [
+            | inl lt ↦
+                let there : span_at (spans ++ record { start = all; len = 0 } ∷ []) i ≡ span_at spans i = pushed_other i lt in
+                rw there (omega (arith, room, p.within i))
+            | inr past ↦
+                let none : span_at (spans ++ record { start = all; len = 0 } ∷ []) i ≡ no_span = pushed_past i (omega (arith, past, d)) in
+                rw none (omega arith)
+          ]
+        ];
+  }
+
+-- lists that take up no places
+pub none_have : (items : List ℕ) (spans : List Span) (counts : List ℕ) → All (λ s. s.len ≡ 0) spans → length spans ≡ length counts
+    → map (in_span items) spans ≡ map (λ _. []) counts
+none_have items [] [] none long = refl
+none_have items [] (c ∷ cs) none long = absurd (omega (arith, long))
+none_have items (s ∷ ss) [] none long = absurd (omega (arith, long))
+none_have items (s ∷ ss) (c ∷ cs) none long =
+    λ i. take (All-head (λ (t : Span). t.len ≡ 0) s ss none i) (drop s.start items)
+    ∷ none_have items ss cs (All-tail (λ (t : Span). t.len ≡ 0) s ss none) (omega (arith, long)) i
+
+-- ---- what a number more, no number, or fewer numbers make of one list
+
+module _ (spans : List Span) (items : List ℕ) (p : ArePacked spans (length items)) (h : ℕ) (within : h < length spans) (span : Span)
+    (read : span ≡ get_or spans h span) where
+  at_hand : span_at spans h ≡ span
+  at_hand = get_or_default spans h no_span span within ∙ sym read
+
+  list_at_hand : list_of (map (in_span items) spans) h ≡ in_span items span
+  list_at_hand = get_or-map (in_span items) spans h span [] within ∙ ap (in_span items) (sym read)
+
+  starts : span.start ≡ (span_at spans h).start
+  starts = ap (λ (s : Span). s.start) (sym at_hand)
+
+  ends : span.start + span.len ≤ room_end spans h (length items)
+  ends =
+      let least : (span_at spans h).start + (span_at spans h).len ≤ room_end spans h (length items) = ends_in_room spans (length items) p h within in
+      subst (λ (s : Span). s.start + s.len ≤ room_end spans h (length items)) at_hand least
+
+  at_hand_within : span.start + span.len ≤ length items
+  at_hand_within = subst (λ (s : Span). s.start + s.len ≤ length items) at_hand (p.within h)
+
+  by_number : (f : List ℕ → List ℕ) (items' : List ℕ) (spans' : List Span) → map (in_span items') spans' ≡ set (map (in_span items) spans) h (f (in_span items span))
+      → (n : ℕ) → list_of (map (in_span items') spans') n
+      ≡ cond (n == h) (f (list_of (map (in_span items) spans) n)) (list_of (map (in_span items) spans) n)
+  by_number f items' spans' put =
+      written_at f (record { lists = map (in_span items) spans; spare = [] }) (record { lists = map (in_span items') spans'; spare = [] }) h
+      (omega (arith, within, length-map spans (in_span items)))
+      (put ∙ ap (λ ls. set (map (in_span items) spans) h (f ls)) (sym list_at_hand))
+
+  module _ (x : ℕ) (room : span.start + span.len < room_end spans h (length items)) where
+    pub appended_packed : ArePacked (set spans h (record { start = span.start; len = span.len + 1 })) (length (set items (span.start + span.len) x))
+    appended_packed =
+        subst (ArePacked (set spans h (record { start = span.start; len = span.len + 1 }))) (sym (length-set items (span.start + span.len) x))
+        (packed_changed spans (length items) p h within (record { start = span.start; len = span.len + 1 }) starts (omega (arith, room)))
+
+    pub appended_lists : map (in_span (set items (span.start + span.len) x)) (set spans h (record { start = span.start; len = span.len + 1 }))
+        ≡ set (map (in_span items) spans) h (list_of (map (in_span items) spans) h ++ x ∷ [])
+    appended_lists =
+        packed_written spans items (set items (span.start + span.len) x) p h within (length-set items (span.start + span.len) x)
+        (λ k less. get_or-set_other items (span.start + span.len) k x 0 (λ e. absurd (omega (arith, e, less, starts))))
+        (λ k more. get_or-set_other items (span.start + span.len) k x 0 (λ e. absurd (omega (arith, e, more, room))))
+        (record { start = span.start; len = span.len + 1 }) (list_of (map (in_span items) spans) h ++ x ∷ [])
+        (in_span_more items span x (omega (arith, room, room_within spans (length items) p h within)) ∙ ap (λ (xs : List ℕ). xs ++ x ∷ []) (sym list_at_hand))
+
+  -- fewer of the numbers, or none
+  pub shrunk_packed : (kept : ℕ) → kept ≤ span.len → ArePacked (set spans h (record { start = span.start; len = kept })) (length items)
+  shrunk_packed kept few = packed_changed spans (length items) p h within (record { start = span.start; len = kept }) starts (omega (arith, ends, few))
+
+  pub cleared_lists : (n : ℕ) → list_of (map (in_span items) (set spans h (record { start = span.start; len = 0 }))) n
+      ≡ cond (n == h) [] (list_of (map (in_span items) spans) n)
+  cleared_lists =
+      by_number (λ _. []) items (set spans h (record { start = span.start; len = 0 }))
+      (packed_written spans items items p h within refl (λ k less. refl) (λ k more. refl) (record { start = span.start; len = 0 }) [] refl)
+
+  -- the numbers of the list are written over by others, of which the first ones stay
+  module _ (wide kept x : ℕ) (ys : List ℕ) (all : wide ≡ span.len) (long : length ys ≡ wide) (few : kept ≤ wide)
+      (are : take kept ys ≡ drop_item x (take wide (drop span.start items))) where
+    starts_within : span.start ≤ length items
+    starts_within = omega (arith, at_hand_within)
+
+    over_long : length (put_mid span.start wide items ys) ≡ length items
+    over_long = search (rules, places)
+
+    over_below : (k : ℕ) → k < (span_at spans h).start → get_or (put_mid span.start wide items ys) k 0 ≡ get_or items k 0
+    over_below k less =
+        let low : k < span.start = omega (arith, less, starts) in
+        sym (get_or-take span.start (put_mid span.start wide items ys) k 0 low)
+        ∙ ap (λ (xs : List ℕ). get_or xs k 0) (take-put_mid_below span.start wide items ys span.start (omega arith) starts_within)
+        ∙ get_or-take span.start items k 0 low
+
+    over_above : (k : ℕ) → room_end spans h (length items) ≤ k → get_or (put_mid span.start wide items ys) k 0 ≡ get_or items k 0
+    over_above k more =
+        let none : k ≡ k + 0 = omega arith in
+        ap (λ j. get_or (put_mid span.start wide items ys) j 0) none ∙ sym (get_or-drop k (put_mid span.start wide items ys) 0 0)
+        ∙ ap (λ (xs : List ℕ). get_or xs 0 0) (drop-put_mid span.start wide items ys k (omega (arith, ends, all, more)) starts_within long)
+        ∙ get_or-drop k items 0 0 ∙ ap (λ j. get_or items j 0) (sym none)
+
+    over_here : in_span (put_mid span.start wide items ys) (record { start = span.start; len = kept }) ≡ drop_item x (in_span items span)
+    over_here =
+        ap (take kept) (drop_at (take span.start items) (ys ++ post_of span.start wide items) span.start (length-take-le span.start items starts_within))
+        ∙ take-append-le kept ys (post_of span.start wide items) (omega (arith, few, long))
+        ∙ are ∙ ap (λ n. drop_item x (take n (drop span.start items))) all
+
+    over_lists : (n : ℕ) → list_of (map (in_span (put_mid span.start wide items ys)) (set spans h (record { start = span.start; len = kept }))) n
+        ≡ cond (n == h) (drop_item x (list_of (map (in_span items) spans) n)) (list_of (map (in_span items) spans) n)
+    over_lists =
+        by_number (drop_item x) (put_mid span.start wide items ys) (set spans h (record { start = span.start; len = kept }))
+        (packed_written spans items (put_mid span.start wide items ys) p h within over_long over_below over_above
+        (record { start = span.start; len = kept }) (drop_item x (in_span items span)) over_here)
+
+  -- a part of the numbers is lent, comes back as others, and only the first of them are told of
+  module _ (wide kept x : ℕ) (ys lent : List ℕ) (same : lent ≡ items) (all : wide ≡ span.len) (long : length ys ≡ length (take wide (drop span.start lent)))
+      (few : kept ≤ length (take wide (drop span.start lent))) (are : take kept ys ≡ drop_item x (take wide (drop span.start lent))) where
+    lent_long : length (take wide (drop span.start lent)) ≡ wide
+    lent_long =
+        ap (λ (xs : List ℕ). length (take wide (drop span.start xs))) same ∙ ap (λ n. length (take n (drop span.start items))) all
+        ∙ in_span_length items span at_hand_within ∙ sym all
+
+    back_is : put_mid span.start wide lent ys ≡ put_mid span.start wide items ys
+    back_is = ap (λ (xs : List ℕ). put_mid span.start wide xs ys) same
+
+    few_lent : kept ≤ wide
+    few_lent = omega (arith, few, lent_long)
+
+    pub fewer : kept ≤ span.len
+    fewer = omega (arith, few_lent, all)
+
+    are_lent : take kept ys ≡ drop_item x (take wide (drop span.start items))
+    are_lent = are ∙ ap (λ (xs : List ℕ). drop_item x (take wide (drop span.start xs))) same
+
+    pub back_long : length (put_mid span.start wide lent ys) ≡ length items
+    back_long = ap length back_is ∙ over_long wide kept x ys all (long ∙ lent_long) few_lent are_lent
+
+    pub removed_lists : (back : List ℕ) (lists : List (List ℕ)) → back ≡ put_mid span.start wide lent ys → map (in_span items) spans ≡ lists
+        → (n : ℕ) → list_of (map (in_span back) (set spans h (record { start = span.start; len = kept }))) n
+        ≡ cond (n == h) (drop_item x (list_of lists n)) (list_of lists n)
+    removed_lists back lists is held n =
+        ap (λ (xs : List ℕ). list_of (map (in_span xs) (set spans h (record { start = span.start; len = kept }))) n) (is ∙ back_is)
+        ∙ over_lists wide kept x ys all (long ∙ lent_long) few_lent are_lent n
+        ∙ ap (λ (ls : List (List ℕ)). cond (n == h) (drop_item x (list_of ls n)) (list_of ls n)) held

@@ -1,0 +1,11 @@
+pub mod Listed
+pub mod Row
+pub mod KeptRow
+pub mod Tables
+pub mod OpenView
+pub mod TablesView
+pub mod Packed
+pub mod PackedView
+pub mod Counting
+pub mod Rows
+pub mod Region

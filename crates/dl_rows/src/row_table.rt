@@ -1,0 +1,160 @@
+//! Lists of numbers by number.
+
+ghost use Rattle.std.specs.Prelude.{◌≡◌, ℕ, ◌+◌, ◌<◌, ◌≤◌, ◌≢◌, ◌==◌, [], ◌∷◌, ◌++◌, OnOk, OnErr, IfOk, map, length, slice_get, set, if◌then◌else◌};
+ghost use Rattle.dl_rows.specs.Tables.{no_table, list_at, spare_at, drop_item, KeepsLists};
+
+use crate::lists::Lists;
+use crate::open_rows::OpenRows;
+use crate::packed_rows::PackedRows;
+use dl_base::Memory;
+use std::alloc::Global;
+use std::marker::Model;
+
+/// A list of numbers at each number.
+pub struct RowTable {
+    rows: Rows,
+}
+
+impl Drop for RowTable {
+    fn drop(self) {
+        let RowTable { rows: _ } = self;
+    }
+}
+
+/// Lists that grow, or lists that stand packed in the room that they were made with, until one of them is to have more.
+#[derive(Drop)]
+enum Rows {
+    Open(OpenRows),
+    Packed(PackedRows),
+}
+
+impl Model for RowTable {
+    ghost use Rattle.dl_rows.specs.Tables.{RowLists};
+
+    ghost Value = { RowLists };
+
+    ghost use Rattle.dl_rows.specs.TablesView.{table_of};
+
+    ghost view = { λ t. table_of t.rows };
+}
+
+impl RowTable {
+    /// No lists. Takes no memory.
+    pub fn make(alloc: Global) -> RowTable
+        ensures { result ≡ no_table }
+    {
+        RowTable {
+            rows: Rows::Open(OpenRows::make(alloc)),
+        }
+    }
+
+    /// Empty lists with room for so many numbers each, packed one behind another. `Memory` where there is none for them, or where they have
+    /// more room together than numbers of 32 bits tell.
+    pub fn with_room(alloc: Global, counts: &[u32]) -> Result<RowTable, Memory>
+        ensures { IfOk result (λ table. table.lists ≡ map (λ _. []) counts.now) }
+    {
+        let rows = PackedRows::with_room(alloc, counts)?;
+        Ok(RowTable {
+            rows: Rows::Packed(rows),
+        })
+    }
+
+    /// One more list, which is empty. Packed lists are opened for it, once for all. `Memory` leaves the table as it was.
+    pub fn grow(&mut self) -> Result<(), Memory>
+        ensures kept { KeepsLists self.old self.new }
+        ensures grown { OnOk result (length self.new.lists ≡ length self.old.lists + 1) }
+        ensures err { OnErr result (self.new ≡ self.old) }
+    {
+        match &mut self.rows {
+            Rows::Open(rows) => rows.grow(),
+            Rows::Packed(rows) => {
+                let mut open = OpenRows::of(rows)?;
+                open.grow()?;
+                self.rows = Rows::Open(open);
+                Ok(())
+            }
+        }
+    }
+
+    /// Room for one more number in a list. Packed lists are opened for it, once for all. `Memory` where there is none for it leaves the
+    /// lists as they were.
+    pub fn reserve(&mut self, number: usize) -> Result<(), Memory>
+        requires { number < length self.old.lists }
+        ensures kept { KeepsLists self.old self.new }
+        ensures same { length self.new.lists ≡ length self.old.lists }
+        ensures room { OnOk result (0 < spare_at self.new number) }
+    {
+        match &mut self.rows {
+            Rows::Open(rows) => rows.reserve(number),
+            Rows::Packed(rows) => {
+                let mut open = OpenRows::of(rows)?;
+                open.reserve(number)?;
+                self.rows = Rows::Open(open);
+                Ok(())
+            }
+        }
+    }
+
+    /// A number at the end of a list, in room that is there.
+    pub fn push(&mut self, number: usize, item: u32)
+        requires { 0 < spare_at self.old number }
+        ensures lists { self.new.lists ≡ set self.old.lists number (list_at self.old number ++ item ∷ []) }
+        ensures room { (n : ℕ) → n ≢ number → spare_at self.new n ≡ spare_at self.old n }
+    {
+        match &mut self.rows {
+            Rows::Open(rows) => rows.push(number, item),
+            // packed lists have no room that is known of
+            Rows::Packed(_) => unreachable!(),
+        }
+    }
+}
+
+impl Lists for RowTable {
+    ghost lists = { λ t. t.lists };
+
+    #[inline(always)]
+    fn len(&self) -> usize {
+        match &self.rows {
+            Rows::Open(rows) => rows.len(),
+            Rows::Packed(rows) => rows.len(),
+        }
+    }
+
+    #[inline(always)]
+    fn row(&self, number: usize) -> &[u32] {
+        match &self.rows {
+            Rows::Open(rows) => rows.row(number),
+            Rows::Packed(rows) => rows.row(number),
+        }
+    }
+
+    #[inline(always)]
+    fn append(&mut self, number: usize, item: u32) -> Result<(), Memory> {
+        match &mut self.rows {
+            Rows::Open(rows) => rows.append(number, item),
+            Rows::Packed(rows) => rows.append(number, item),
+        }
+    }
+
+    #[inline(always)]
+    fn has_room(&self, number: usize) -> bool {
+        match &self.rows {
+            Rows::Open(rows) => rows.has_room(number),
+            Rows::Packed(rows) => rows.has_room(number),
+        }
+    }
+
+    fn remove(&mut self, number: usize, item: u32) {
+        match &mut self.rows {
+            Rows::Open(rows) => rows.remove(number, item),
+            Rows::Packed(rows) => rows.remove(number, item),
+        }
+    }
+
+    fn clear(&mut self, number: usize) {
+        match &mut self.rows {
+            Rows::Open(rows) => rows.clear(number),
+            Rows::Packed(rows) => rows.clear(number),
+        }
+    }
+}
