@@ -9,8 +9,6 @@
 mod board;
 mod calls;
 mod opening;
-#[cfg(test)]
-mod tests;
 mod turned;
 
 pub use board::Board;

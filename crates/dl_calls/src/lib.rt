@@ -14,8 +14,6 @@ mod entry;
 mod laws;
 mod reply;
 mod spelled;
-#[cfg(test)]
-mod tests;
 mod write;
 
 pub use call::Call;

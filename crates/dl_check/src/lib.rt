@@ -20,6 +20,3 @@ mod walk;
 pub use certificate::read_certificate;
 pub use checker::Checker;
 pub use flaw::{CertStop, CheckStop, Flaw};
-
-#[cfg(test)]
-mod tests;

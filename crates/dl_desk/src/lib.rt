@@ -10,8 +10,6 @@
 
 mod calls;
 mod desk;
-#[cfg(test)]
-mod tests;
 
 pub use desk::Desk;
 pub use dl_base::Memory;

@@ -6,8 +6,6 @@ mod literal;
 mod name;
 mod names;
 mod near;
-#[cfg(test)]
-mod tests;
 mod text;
 
 pub use borrowed::LiteralRef;

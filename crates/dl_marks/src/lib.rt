@@ -4,8 +4,6 @@
 mod bits;
 mod marks;
 mod steps;
-#[cfg(test)]
-mod tests;
 
 pub use dl_base::Memory;
 pub use dl_lit::{Family, Tag};

@@ -8,8 +8,6 @@
 #![tactic(auto)]
 
 mod fill;
-#[cfg(test)]
-mod tests;
 mod work;
 
 pub use fill::{PropGates, bases, fill_prop, tags, wires};

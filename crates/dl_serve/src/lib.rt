@@ -11,6 +11,3 @@ mod serve;
 pub use dl_base::Memory;
 pub use job::Job;
 pub use serve::serve_all;
-
-#[cfg(test)]
-mod tests;

@@ -79,7 +79,7 @@ struct Ranking {
 }
 
 /// Whether a list of pairs was seen to be an order. One with very large items is not looked at.
-pub(crate) fn is_order(alloc: Global, links: &[Link]) -> Result<bool, Memory>
+pub fn is_order(alloc: Global, links: &[Link]) -> Result<bool, Memory>
     ensures { IfOk result (λ order. order ≡ true → IsOrder links.now) }
 {
     let width = match width(links) {

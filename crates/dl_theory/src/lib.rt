@@ -20,8 +20,6 @@ mod rule;
 mod rule_pairs;
 mod rules;
 mod superiority;
-#[cfg(test)]
-mod tests;
 mod theory;
 
 pub use answer::{Answer, Certificate, Verdict};

@@ -21,6 +21,3 @@ pub use chronicle::{Chronicle, Numbered};
 pub use dl_base::Memory;
 pub use seat::Seat;
 pub use turnstile::Turnstile;
-
-#[cfg(test)]
-mod tests;

@@ -1,4 +1,0 @@
-use Rattle.ddl.proofs.trials.drafts.a_refused_edit_changes_nothing.Given as goal
-
-abbrev pub ghosts-refuse : goal.ghosts-refuse
-ghosts-refuse g a = record { name = a.blank.name; parts = a.blank.parts }

@@ -1,0 +1,100 @@
+//! Houses in memory, and how the program ends over them.
+
+ghost use Rattle.dl_io.specs.House.{IsShut};
+ghost use Rattle.dl_io.specs.Memory.{house_in_memory};
+
+use ddl::{Status, run};
+use dl_io::MemoryHouse;
+use std::alloc::Global;
+use std::process::Abort;
+use std::sync::Wait;
+use std::test::Fail;
+use std::thread::Threads;
+
+/// A file of a house: its name and its bytes, and at which calls reads of it and writes to it fail.
+#[derive(Clone, Copy)]
+pub(crate) struct File<'a> {
+    pub(crate) name: &'a str,
+    pub(crate) bytes: &'a [u8],
+    pub(crate) read_fails: &'a [usize],
+    pub(crate) write_fails: &'a [usize],
+}
+
+/// A file of which no read and no write fails.
+pub(crate) fn file<'a>(name: &'a str, bytes: &'a [u8]) -> File<'a> {
+    File {
+        name,
+        bytes,
+        read_fails: &[],
+        write_fails: &[],
+    }
+}
+
+fn put(alloc: Global, house: &mut MemoryHouse, file: File<'_>) -> Result<(), Fail>
+    requires { IsShut (house_in_memory house.old) }
+    ensures { IsShut (house_in_memory house.new) }
+{
+    let name = String::from_str(alloc, file.name)?;
+    let bytes = file.bytes.to_vec(alloc)?;
+    let read_fails = file.read_fails.to_vec(alloc)?;
+    let write_fails = file.write_fails.to_vec(alloc)?;
+    house.put(name, bytes, read_fails, write_fails)?;
+    Ok(())
+}
+
+fn words_of(alloc: Global, words: &[&str]) -> Result<Vec<String>, Fail> {
+    let mut all = Vec::new(alloc);
+    for word in words {
+        all.push(String::from_str(alloc, word)?)?;
+    }
+    Ok(all)
+}
+
+fn ended<R: Threads + Wait + Sync>(
+    rt: &R,
+    alloc: Global,
+    words: &[&str],
+    house: &mut MemoryHouse,
+) -> Result<(Status, Vec<u8>), Fail>
+    requires { IsShut (house_in_memory house.old) }
+{
+    let words = words_of(alloc, words)?;
+    let status = run(rt, alloc, &words, house);
+    let dash = String::from_str(alloc, "-")?;
+    let text = house.wrote(&dash).ok_or("nothing was settled")?;
+    Ok((status, text.to_vec(alloc)?))
+}
+
+/// Words, and the two files that a house has.
+#[derive(Clone, Copy)]
+pub(crate) struct Asked<'a> {
+    pub(crate) words: &'a [&'a str],
+    pub(crate) one: File<'a>,
+    pub(crate) other: File<'a>,
+}
+
+/// How the program ends on the words, and what stands on standard output then.
+fn said<R: Threads + Wait + Sync>(
+    rt: &R,
+    alloc: Global,
+    asked: Asked<'_>,
+) -> Result<(Status, Vec<u8>), Fail> {
+    let mut house = MemoryHouse::make(alloc);
+    put(alloc, &mut house, asked.one)?;
+    put(alloc, &mut house, asked.other)?;
+    ended(rt, alloc, asked.words, &mut house)
+}
+
+/// Compares the text on standard output, and how the program ends.
+pub(crate) fn expect<R: Threads + Wait + Sync + Abort>(
+    rt: &R,
+    alloc: Global,
+    asked: Asked<'_>,
+    status: Status,
+    text: &[u8],
+) -> Result<(), Fail> {
+    let (ended, said) = said(rt, alloc, asked)?;
+    assert_eq!(rt; said.as_slice(), text);
+    assert_eq!(rt; ended, status);
+    Ok(())
+}

@@ -1,4 +1,0 @@
-use Rattle.dl_board.proofs.tests.a_loop_loses_its_support.Given as goal
-
-abbrev pub ghosts-loop_support : goal.ghosts-loop_support
-ghosts-loop_support g a = record { name = a.blank.name; parts = a.blank.parts }

@@ -1,4 +1,0 @@
-use Rattle.dl_board.proofs.tests.an_edition_keeps_its_pair.Given as goal
-
-abbrev pub ghosts-dropped_pair : goal.ghosts-dropped_pair
-ghosts-dropped_pair g a = record { name = a.blank.name; parts = a.blank.parts }

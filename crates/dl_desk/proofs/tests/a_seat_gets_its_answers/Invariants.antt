@@ -1,4 +1,0 @@
-use Rattle.dl_desk.proofs.tests.a_seat_gets_its_answers.Given as goal
-
-abbrev pub ghosts-expect_entries : goal.ghosts-expect_entries
-ghosts-expect_entries g a = record { name = a.blank.name; parts = a.blank.parts }

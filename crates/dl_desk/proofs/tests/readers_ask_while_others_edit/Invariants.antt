@@ -1,4 +1,0 @@
-use Rattle.dl_desk.proofs.tests.readers_ask_while_others_edit.Given as goal
-
-abbrev pub ghosts-expect_answered : goal.ghosts-expect_answered
-ghosts-expect_answered g a = record { name = a.blank.name; parts = a.blank.parts }

@@ -1,8 +1,0 @@
-use Rattle.dl_edition.specs.Offices.{MayCall}
-use Rattle.dl_desk.proofs.tests.toggle_all.Given as goal
-
-abbrev pub invariant-loop : goal.invariant-loop
-invariant-loop g l = record {
-  belongs : g.O.Office.belongs l.office l.seat;
-  may : MayCall l.seat;
-}

@@ -1,4 +1,0 @@
-use Rattle.dl_desk.proofs.tests.two_threads_publish.Given as goal
-
-abbrev pub ghosts-expect_publications : goal.ghosts-expect_publications
-ghosts-expect_publications g a = record { name = a.blank.name; parts = a.blank.parts }

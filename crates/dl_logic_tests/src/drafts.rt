@@ -1,0 +1,333 @@
+//! Drafts, saturated at once and edit by edit.
+
+ghost use Rattle.std.specs.Prelude.{◌≡◌, ◌<◌};
+
+use crate::editions::expect_conclusions;
+use crate::texts::{AMBIGUOUS, PENGUIN, edit_of, numbered_of, tagged_of, theory_of};
+use dl_edition::Held;
+use dl_lit::{Family, Memory, Tag};
+use dl_marks::{Marks, Steps};
+use dl_net::Graph;
+use dl_theory::{EditRefusal, EditStop, Theory};
+use dl_update::{Draft, DraftNet, FamilyNet};
+use std::alloc::Global;
+use std::marker::Brand;
+use std::process::Abort;
+use std::sync::ledger::{Blank, Ledger};
+
+/// A family, and what is concluded in it.
+type Concluded = (Family, &'static str);
+
+/// A family, and tagged literals of it that follow.
+type Marked = (Family, [&'static str; 4]);
+
+/// Edits that are made one after another, and what is concluded then.
+#[derive(Clone, Copy)]
+struct Stage {
+    edits: &'static [&'static str],
+    concluded: &'static [Concluded],
+}
+
+/// What follows from it, family by family.
+const AMBIGUOUS_MARKS: [Marked; 4] = [
+    (Family::Definite, ["-D p", "-D -p", "-D q", "-D -q"]),
+    (Family::Blocking, ["-d p", "-d -p", "+d q", "-d -q"]),
+    (Family::Propagating, ["-a p", "-a -p", "-a q", "-a -q"]),
+    (Family::Support, ["+s p", "+s -p", "+s q", "+s -q"]),
+];
+
+/// What is concluded from it.
+const AMBIGUOUS_CONCLUDED: [Concluded; 4] = [
+    (Family::Definite, "-D p\n-D -p\n-D q\n-D -q\n"),
+    (Family::Blocking, "-d p\n-d -p\n+d q\n-d -q\n"),
+    (Family::Propagating, "-a p\n-a -p\n-a q\n-a -q\n"),
+    (Family::Support, "+s p\n+s -p\n+s q\n+s -q\n"),
+];
+
+/// What is concluded where the rule for `p` is above the one for `-p`.
+const ABOVE_CONCLUDED: [Concluded; 4] = [
+    (Family::Definite, "-D p\n-D -p\n-D q\n-D -q\n"),
+    (Family::Blocking, "+d p\n-d -p\n-d q\n-d -q\n"),
+    (Family::Propagating, "+a p\n-a -p\n-a q\n-a -q\n"),
+    (Family::Support, "+s p\n-s -p\n+s q\n+s -q\n"),
+];
+
+/// The rules one by one; then a pair that comes and goes, and a rule that goes.
+const AMBIGUOUS_STAGES: [Stage; 5] = [
+    Stage {
+        edits: &[],
+        concluded: &[(Family::Definite, ""), (Family::Support, "")],
+    },
+    Stage {
+        edits: &[
+            "add r1: => p",
+            "add r2: => -p",
+            "add r3: => q",
+            "add r4: p => -q",
+        ],
+        concluded: &AMBIGUOUS_CONCLUDED,
+    },
+    Stage {
+        edits: &["add r1 > r2"],
+        concluded: &ABOVE_CONCLUDED,
+    },
+    Stage {
+        edits: &["drop r1 > r2"],
+        concluded: &AMBIGUOUS_CONCLUDED,
+    },
+    Stage {
+        edits: &["drop r2"],
+        concluded: &[(Family::Blocking, "+d p\n-d -p\n-d q\n-d -q\n")],
+    },
+];
+
+/// A loop is proved as long as something outside it proves it.
+const LOOP_STAGES: [Stage; 2] = [
+    Stage {
+        edits: &["add r1: p => q", "add r2: q => p", "add f: => p"],
+        concluded: &[(Family::Blocking, "+d p\n-d -p\n+d q\n-d -q\n")],
+    },
+    Stage {
+        edits: &["drop f"],
+        concluded: &[(Family::Blocking, "?d p\n-d -p\n?d q\n-d -q\n")],
+    },
+];
+
+/// Facts that contradict each other, and a rule that a fact defeats.
+const FACT_STAGES: [Stage; 2] = [
+    Stage {
+        edits: &["add >> p", "add >> -p"],
+        concluded: &[(Family::Blocking, "+d p\n+d -p\n")],
+    },
+    Stage {
+        edits: &["drop >> p", "add r: => p"],
+        concluded: &[(Family::Blocking, "-d p\n+d -p\n")],
+    },
+];
+
+/// Two rules beat their attackers as a team.
+const TEAM_STAGES: [Stage; 2] = [
+    Stage {
+        edits: &[
+            "add r1: => p",
+            "add r2: => p",
+            "add s1: => -p",
+            "add s2: => -p",
+        ],
+        concluded: &[(Family::Blocking, "-d p\n-d -p\n")],
+    },
+    Stage {
+        edits: &["add r1 > s1", "add r2 > s2"],
+        concluded: &[(Family::Blocking, "+d p\n-d -p\n")],
+    },
+];
+
+const PENGUIN_CONCLUDED: [Concluded; 1] = [(
+    Family::Blocking,
+    "+d bird\n-d -bird\n-d flies\n+d -flies\n+d penguin\n-d -penguin\n",
+)];
+
+/// What is concluded without the pair.
+const TIED_CONCLUDED: [Concluded; 1] = [(
+    Family::Blocking,
+    "+d bird\n-d -bird\n-d flies\n-d -flies\n+d penguin\n-d -penguin\n",
+)];
+
+const QUAKER: &str =
+    ">> quaker\n>> republican\nr1: quaker => pacifist\nr2: republican => -pacifist\n";
+
+const QUAKER_CONCLUDED: [Concluded; 2] = [
+    (
+        Family::Blocking,
+        "-d pacifist\n-d -pacifist\n+d quaker\n-d -quaker\n+d republican\n-d -republican\n",
+    ),
+    (
+        Family::Support,
+        "+s pacifist\n+s -pacifist\n+s quaker\n-s -quaker\n+s republican\n-s -republican\n",
+    ),
+];
+
+/// Makes an edit that is accepted.
+fn touch<L: Ledger>(
+    rt: &impl Abort,
+    alloc: Global,
+    draft: &mut Draft,
+    text: &str,
+    steps: &mut Steps<L>,
+) {
+    let edit = edit_of(rt, alloc, text);
+    let touched = draft.touch(&edit, steps);
+    assert!(rt; touched.is_ok(), "an edit was not made");
+}
+
+fn touch_all<L: Ledger>(
+    rt: &impl Abort,
+    alloc: Global,
+    draft: &mut Draft,
+    texts: &[&str],
+    steps: &mut Steps<L>,
+) {
+    for text in texts {
+        touch(rt, alloc, draft, text, steps);
+    }
+}
+
+/// An edition of what the draft stands for.
+pub(crate) fn edition(alloc: Global, draft: &mut Draft) -> Result<Held, Memory> {
+    draft.freeze()?;
+    let (net, marks) = draft.share()?;
+    Held::make(alloc, 0, net, marks)
+}
+
+/// Compares what a draft concludes with what it is to conclude.
+fn expect_draft(rt: &impl Abort, alloc: Global, draft: &mut Draft, concluded: &[Concluded]) {
+    let held = edition(alloc, draft).expect(rt, "room");
+    expect_concluded(rt, alloc, &held, concluded);
+}
+
+fn expect_concluded(rt: &impl Abort, alloc: Global, held: &Held, concluded: &[Concluded]) {
+    for &(family, text) in concluded {
+        expect_conclusions(rt, alloc, held, family, text);
+    }
+}
+
+/// The draft of a theory.
+pub(crate) fn saturated<L: Ledger>(
+    rt: &impl Abort,
+    alloc: Global,
+    theory: &Theory,
+    steps: &mut Steps<L>,
+) -> Draft {
+    Draft::saturate(alloc, theory, steps).expect(rt, "room")
+}
+
+/// One stage after another, from the empty theory on.
+fn go_through<L: Ledger>(rt: &impl Abort, alloc: Global, stages: &[Stage], blank: Blank)
+    requires name { blank.name ≡ L.name }
+    requires parts { blank.parts ≡ L.parts }
+    requires some { 0 < blank.parts }
+{
+    let mut steps = Steps::<L>::make(blank);
+    let mut draft = saturated(rt, alloc, &Theory::make(alloc), &mut steps);
+    for stage in stages {
+        touch_all(rt, alloc, &mut draft, stage.edits, &mut steps);
+        expect_draft(rt, alloc, &mut draft, stage.concluded);
+    }
+    drop(draft);
+}
+
+fn expect_stages(rt: &impl Abort, alloc: Global, stages: &[Stage]) {
+    go_through::<Brand>(rt, alloc, stages, Blank::new(1));
+}
+
+#[test]
+fn what_is_concluded_follows_each_edit(rt: HostRuntime) {
+    let alloc = rt.alloc();
+    expect_stages(&rt, alloc, &AMBIGUOUS_STAGES);
+    expect_stages(&rt, alloc, &LOOP_STAGES);
+    expect_stages(&rt, alloc, &FACT_STAGES);
+    expect_stages(&rt, alloc, &TEAM_STAGES);
+}
+
+/// Asks for a mark of a tagged literal, and that its opposite has none.
+fn expect_mark(rt: &impl Abort, alloc: Global, net: &Graph<'_>, marks: &Marks, text: &str) {
+    let tagged = tagged_of(rt, alloc, text);
+    let number = net.find(&tagged.literal).expect(rt, "a number");
+    assert!(rt; number < marks.len());
+    let family = tagged.family;
+    let plus = marks.get(Tag { plus: true, family }, number);
+    let minus = marks.get(
+        Tag {
+            plus: false,
+            family,
+        },
+        number,
+    );
+    assert!(rt; plus == tagged.plus, "another plus mark");
+    assert!(rt; minus != tagged.plus, "another minus mark");
+}
+
+fn expect_marks(rt: &impl Abort, alloc: Global, net: &Graph<'_>, marks: &Marks, texts: &[&str]) {
+    for text in texts {
+        expect_mark(rt, alloc, net, marks, text);
+    }
+}
+
+/// The marks of a draft of one family, and of what it shares.
+fn expect_alone<L: Ledger>(rt: &impl Abort, alloc: Global, marked: &Marked, steps: &mut Steps<L>) {
+    let (family, texts) = marked;
+    let theory = numbered_of(rt, alloc, AMBIGUOUS);
+    let mut draft = Draft::<FamilyNet>::saturate_in(alloc, theory, *family, steps).expect(
+        rt, "room",
+    );
+    expect_marks(rt, alloc, &draft.net().graph(), draft.marks(), texts);
+    draft.freeze().expect(rt, "room");
+    let (net, marks) = draft.share().expect(rt, "room");
+    drop(draft);
+    expect_marks(rt, alloc, &net.graph(), &marks, texts);
+}
+
+fn mark_ambiguous<L: Ledger>(rt: &impl Abort, alloc: Global, blank: Blank)
+    requires name { blank.name ≡ L.name }
+    requires parts { blank.parts ≡ L.parts }
+    requires some { 0 < blank.parts }
+{
+    let mut steps = Steps::<L>::make(blank);
+    let theory = theory_of(rt, alloc, AMBIGUOUS);
+    let draft = saturated(rt, alloc, &theory, &mut steps);
+    for marked in AMBIGUOUS_MARKS.iter() {
+        let (_, texts) = marked;
+        expect_marks(rt, alloc, &draft.net().graph(), draft.marks(), texts);
+        expect_alone(rt, alloc, marked, &mut steps);
+    }
+    drop(draft);
+}
+
+#[test]
+fn each_family_is_marked(rt: HostRuntime) {
+    mark_ambiguous::<Brand>(&rt, rt.alloc(), Blank::new(1));
+}
+
+/// An edit of a label that is there is refused, and a draft concludes what it did.
+fn refuse<L: Ledger>(rt: &impl Abort, alloc: Global, blank: Blank)
+    requires name { blank.name ≡ L.name }
+    requires parts { blank.parts ≡ L.parts }
+    requires some { 0 < blank.parts }
+{
+    let mut steps = Steps::<L>::make(blank);
+    let theory = theory_of(rt, alloc, QUAKER);
+    let mut draft = saturated(rt, alloc, &theory, &mut steps);
+    let edit = edit_of(rt, alloc, "add r1: hawk => -dove");
+    match draft.touch(&edit, &mut steps) {
+        Err(EditStop::Refused(EditRefusal::LabelThere(_))) => {}
+        _ => panic!(rt; "not refused"),
+    }
+    expect_draft(rt, alloc, &mut draft, &QUAKER_CONCLUDED);
+    drop(draft);
+}
+
+#[test]
+fn a_refused_edit_changes_nothing(rt: HostRuntime) {
+    refuse::<Brand>(&rt, rt.alloc(), Blank::new(1));
+}
+
+/// What was shared stays as it was under a later edit of the draft.
+fn share<L: Ledger>(rt: &impl Abort, alloc: Global, blank: Blank)
+    requires name { blank.name ≡ L.name }
+    requires parts { blank.parts ≡ L.parts }
+    requires some { 0 < blank.parts }
+{
+    let mut steps = Steps::<L>::make(blank);
+    let theory = theory_of(rt, alloc, PENGUIN);
+    let mut draft = saturated(rt, alloc, &theory, &mut steps);
+    let before = edition(alloc, &mut draft).expect(rt, "room");
+    touch(rt, alloc, &mut draft, "drop r3 > r2", &mut steps);
+    expect_concluded(rt, alloc, &before, &PENGUIN_CONCLUDED);
+    expect_draft(rt, alloc, &mut draft, &TIED_CONCLUDED);
+    drop(draft);
+}
+
+#[test]
+fn what_is_shared_stays(rt: HostRuntime) {
+    share::<Brand>(&rt, rt.alloc(), Blank::new(1));
+}

@@ -1,0 +1,57 @@
+//! Marks that are set, cleared, frozen and shared.
+
+ghost use Rattle.std.specs.Prelude.{◌≡◌, ◌<◌};
+
+use dl_marks::{Family, Marks, Memory, Steps, Tag};
+use std::alloc::Global;
+use std::marker::Brand;
+use std::sync::ledger::{Blank, Ledger};
+use std::test::Fail;
+
+const PLUS: Tag = Tag {
+    plus: true,
+    family: Family::Propagating,
+};
+
+const MINUS: Tag = Tag {
+    plus: false,
+    family: Family::Propagating,
+};
+
+/// Two numbers, of which the second is proved in one family.
+fn proved_once<L: Ledger>(alloc: Global, blank: Blank) -> Result<Marks, Memory>
+    requires name { blank.name ≡ L.name }
+    requires parts { blank.parts ≡ L.parts }
+    requires some { 0 < blank.parts }
+{
+    let mut steps = Steps::<L>::make(blank);
+    let mut marks = Marks::make(alloc);
+    marks.grown(2, &mut steps)?;
+    marks.own(1)?;
+    marks.set(PLUS, 1, &mut steps);
+    marks.clear(MINUS, 1, &mut steps);
+    marks.freeze()?;
+    let _ = sent(steps);
+    marks.share()
+}
+
+/// Marks may be seen by many threads.
+fn shared<T: Send + Sync>(value: T) -> T {
+    value
+}
+
+/// A counter may go to another thread.
+fn sent<T: Send>(value: T) -> T {
+    value
+}
+
+#[test]
+fn one_number_is_proved(rt: HostRuntime) -> Result<(), Fail> {
+    let marks = shared(proved_once::<Brand>(rt.alloc(), Blank::new(1))?);
+    assert_eq!(rt; marks.len(), 2);
+    for number in 0..marks.len() {
+        assert_eq!(rt; marks.get(PLUS, number), number == 1);
+        assert_eq!(rt; marks.get(MINUS, number), number != 1);
+    }
+    Ok(())
+}

@@ -1,0 +1,62 @@
+//! Theories that several tests use, what is read from text, and a sink that text is written to.
+
+use dl_io::MemorySink;
+use dl_lit::{Literal, Name, Tagged};
+use dl_net::NumberedTheory;
+use dl_read::{read_edit, read_file, read_into, read_literal, read_tagged};
+use dl_theory::{Edit, Theory};
+use std::alloc::Global;
+use std::process::Abort;
+
+/// Penguins are birds that do not fly.
+pub(crate) const PENGUIN: &str =
+    ">> penguin\nr1: penguin -> bird\nr2: bird => flies\nr3: penguin => -flies\nr3 > r2\n";
+
+/// Rules for `p` and for `-p` that meet, one for `q`, and one from `p` for `-q`.
+pub(crate) const AMBIGUOUS: &str = "r1: => p\nr2: => -p\nr3: => q\nr4: p => -q\n";
+
+/// The theory that a text says.
+pub(crate) fn theory_of(rt: &impl Abort, alloc: Global, text: &str) -> Theory {
+    match read_file(alloc, text.as_bytes()) {
+        Ok(theory) => theory,
+        Err(_) => panic!(rt; "no theory"),
+    }
+}
+
+/// The same, by numbers alone.
+pub(crate) fn numbered_of(rt: &impl Abort, alloc: Global, text: &str) -> NumberedTheory {
+    match read_into(alloc, NumberedTheory::make(alloc), text.as_bytes()) {
+        Ok(theory) => theory,
+        Err(_) => panic!(rt; "no theory"),
+    }
+}
+
+pub(crate) fn edit_of(rt: &impl Abort, alloc: Global, text: &str) -> Edit {
+    match read_edit(alloc, text.as_bytes()) {
+        Ok(edit) => edit,
+        Err(_) => panic!(rt; "no edit"),
+    }
+}
+
+pub(crate) fn literal_of(rt: &impl Abort, alloc: Global, text: &str) -> Literal {
+    match read_literal(alloc, text.as_bytes()) {
+        Ok(literal) => literal,
+        Err(_) => panic!(rt; "no literal"),
+    }
+}
+
+pub(crate) fn tagged_of(rt: &impl Abort, alloc: Global, text: &str) -> Tagged {
+    match read_tagged(alloc, text.as_bytes()) {
+        Ok(tagged) => tagged,
+        Err(_) => panic!(rt; "no tagged literal"),
+    }
+}
+
+pub(crate) fn name(rt: &impl Abort, alloc: Global, text: &str) -> Name {
+    Name::make(alloc, text.as_bytes()).expect(rt, "a name")
+}
+
+/// What is written to it can be read back.
+pub(crate) fn sink(alloc: Global) -> MemorySink {
+    MemorySink::make(alloc, Vec::new(alloc))
+}

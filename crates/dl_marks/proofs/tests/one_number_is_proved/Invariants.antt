@@ -1,4 +1,0 @@
-use Rattle.dl_marks.proofs.tests.one_number_is_proved.Given as goal
-
-abbrev pub ghosts-proved_once : goal.ghosts-proved_once
-ghosts-proved_once g a = record { name = a.blank.name; parts = a.blank.parts }

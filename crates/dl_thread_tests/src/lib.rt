@@ -1,0 +1,11 @@
+//! Tests of what runs in threads: the turnstile, jobs that are done at once, and the desk.
+//!
+//! They are apart from what they test, since a crate with tests is proved twice, with them and without.
+#![tactic(auto)]
+
+#[cfg(test)]
+mod desks;
+#[cfg(test)]
+mod jobs;
+#[cfg(test)]
+mod turns;
