@@ -5,6 +5,7 @@ use Rattle.std.proofs.lemmas.Bool.{cases_eq}
 use Rattle.std.proofs.lemmas.List.{get_or-map}
 use Rattle.std.proofs.lemmas.List.Elements.{All-nil, All-push, All-contains, Contains-append_left, Contains-append_cases, Contains-push}
 use Rattle.dl_base.proofs.Members.{only}
+use Rattle.dl_rows.proofs.TableLemmas.{map_changed}
 use Rattle.dl_rows.specs.Tables.{RowLists, list_at, list_of}
 use Rattle.dl_net.specs.Indexes.{place_in, by_place, HasLinks}
 

@@ -18,6 +18,7 @@ use Rattle.dl_theory.specs.Lists.{TheoryLists, IsWellFormed, labels}
 use Rattle.dl_theory.specs.Pairs.{pair_eq, pair_eq-Decides}
 use Rattle.dl_theory.specs.Edits.{IsAccepted, HasLabel}
 use Rattle.dl_theory.proofs.Numbers.{without_pushed}
+use Rattle.dl_names.proofs.PairLemmas.{slice_get-append_left}
 use Rattle.dl_net.specs.declared.staged.Staged.TheInside.{Inside}
 use Rattle.dl_net.specs.Staged.{held, taken_back, told}
 use Rattle.dl_net.specs.KeptStaged.{staged_of, IsHeld, Holds, IsKeptStaged}
