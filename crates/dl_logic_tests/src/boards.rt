@@ -50,7 +50,10 @@ fn two_seats<L: Ledger>(rt: &impl Abort, alloc: Global, blank: Blank)
     play(rt, alloc, &mut board, &[(0, Act::Hold(2))]);
     expect_history(rt, alloc, &board, TWO_SEATS);
     expect_first(rt, alloc, &held);
-    expect_second(rt, alloc, &edition(rt, &board, 1));
+    drop(held);
+    let next = edition(rt, &board, 1);
+    expect_second(rt, alloc, &next);
+    drop(next);
     drop(board);
 }
 
@@ -110,7 +113,9 @@ fn expect_editions<L: Ledger>(
     play(rt, alloc, board, after);
     let next = edition(rt, board, 1);
     expect_conclusions(rt, alloc, &next, Family::Blocking, conclusions.second);
+    drop(next);
     expect_conclusions(rt, alloc, &held, Family::Blocking, conclusions.first);
+    drop(held);
 }
 
 /// Of two rules that support each other nothing follows in the end, and nothing is refuted.
@@ -151,6 +156,7 @@ fn loop_support<L: Ledger>(rt: &impl Abort, alloc: Global, blank: Blank)
     );
     let last = edition(rt, &board, 1);
     expect_gap(rt, alloc, &last, Family::Blocking, "p", LOOP_GAP);
+    drop(last);
     drop(board);
 }
 
@@ -255,6 +261,7 @@ fn refusals<L: Ledger>(rt: &impl Abort, alloc: Global, blank: Blank)
     expect_history(rt, alloc, &board, REFUSALS);
     let held = edition(rt, &board, 0);
     expect_text(rt, alloc, &held, 4, ">> p\nr1: => q\nr2: => -q\nr1 > r2\n");
+    drop(held);
     drop(board);
 }
 

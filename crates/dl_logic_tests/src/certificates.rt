@@ -3,11 +3,12 @@
 ghost use Rattle.std.specs.Prelude.{◌≡◌, ◌<◌};
 
 use crate::drafts::{edition, saturated};
+use crate::editions::{derivation_of, gap_of};
 use crate::texts::{AMBIGUOUS, PENGUIN, literal_of, tagged_of, theory_of};
 use dl_check::{CheckStop, Checker};
 use dl_lit::{Family, Literal, Tagged};
 use dl_marks::Steps;
-use dl_theory::{Answer, Certificate, TaggedList, Theory, Verdict};
+use dl_theory::{Answer, TaggedList, Theory, Verdict};
 use std::alloc::Global;
 use std::marker::Brand;
 use std::process::Abort;
@@ -245,19 +246,15 @@ fn counted_answer<L: Ledger>(
     let mut steps = Steps::<L>::make(blank);
     let mut draft = saturated(rt, alloc, theory, &mut steps);
     let held = edition(alloc, &mut draft).expect(rt, "room");
-    let answer = held.ask(family, literal).expect(rt, "room");
     drop(draft);
+    let answer = held.ask(family, literal).expect(rt, "room");
+    drop(held);
     answer
 }
 
-fn answer(
-    rt: &impl Abort,
-    alloc: Global,
-    theory: &Theory,
-    family: Family,
-    literal: &Literal,
-) -> Answer {
-    counted_answer::<Brand>(rt, alloc, theory, family, literal, Blank::new(1))
+fn answer(rt: &impl Abort, alloc: Global, theory: &Theory, family: Family, text: &str) -> Answer {
+    let literal = literal_of(rt, alloc, text);
+    counted_answer::<Brand>(rt, alloc, theory, family, &literal, Blank::new(1))
 }
 
 /// Whether a list has all these members.
@@ -348,15 +345,12 @@ fn expect_derivation(
 
 fn expect_derived(rt: &impl Abort, alloc: Global, row: &Derived) {
     let theory = theory_of(rt, alloc, row.theory);
-    let literal = literal_of(rt, alloc, row.literal);
-    let answer = answer(rt, alloc, &theory, row.family, &literal);
+    let answer = answer(rt, alloc, &theory, row.family, row.literal);
     assert!(rt; answer.verdict == row.verdict, "another verdict");
-    match &answer.certificate {
-        Certificate::Derivation(list) => {
-            expect_derivation(rt, alloc, &theory, list, row.members);
-        }
-        Certificate::Gap(_) => panic!(rt; "a gap"),
-    }
+    let list = derivation_of(rt, answer);
+    expect_derivation(rt, alloc, &theory, &list, row.members);
+    drop(list);
+    drop(theory);
 }
 
 /// Asks for a gap that the checker accepts, with these members in this order.
@@ -369,13 +363,12 @@ fn expect_gap(rt: &impl Abort, alloc: Global, theory: &Theory, list: &TaggedList
 
 fn expect_open(rt: &impl Abort, alloc: Global, row: &Open) {
     let theory = theory_of(rt, alloc, row.theory);
-    let literal = literal_of(rt, alloc, row.literal);
-    let answer = answer(rt, alloc, &theory, row.family, &literal);
+    let answer = answer(rt, alloc, &theory, row.family, row.literal);
     assert!(rt; answer.verdict == Verdict::Neither, "another verdict");
-    match &answer.certificate {
-        Certificate::Gap(list) => expect_gap(rt, alloc, &theory, list, row.gap),
-        Certificate::Derivation(_) => panic!(rt; "a derivation"),
-    }
+    let list = gap_of(rt, answer);
+    expect_gap(rt, alloc, &theory, &list, row.gap);
+    drop(list);
+    drop(theory);
 }
 
 #[test]
@@ -385,20 +378,22 @@ fn no_member_of_a_derivation_is_idle(rt: HostRuntime) {
     }
 }
 
+/// A derivation by either rule, with the members for that rule.
+fn expect_one_way(rt: &impl Abort, alloc: Global, theory: &Theory, list: &TaggedList) {
+    let by_one = has_members(rt, alloc, list.as_slice(), &BY_ONE);
+    let members = if by_one { &BY_ONE } else { &BY_THE_OTHER };
+    expect_derivation(rt, alloc, theory, list, members);
+}
+
 #[test]
 fn one_of_two_ways_is_kept(rt: HostRuntime) {
     let alloc = rt.alloc();
     let theory = theory_of(&rt, alloc, EITHER);
-    let literal = literal_of(&rt, alloc, "q");
-    let answer = answer(&rt, alloc, &theory, Family::Blocking, &literal);
-    match &answer.certificate {
-        Certificate::Derivation(list) => {
-            let by_one = has_members(&rt, alloc, list.as_slice(), &BY_ONE);
-            let members = if by_one { &BY_ONE } else { &BY_THE_OTHER };
-            expect_derivation(&rt, alloc, &theory, list, members);
-        }
-        Certificate::Gap(_) => panic!(&rt; "a gap"),
-    }
+    let answer = answer(&rt, alloc, &theory, Family::Blocking, "q");
+    let list = derivation_of(&rt, answer);
+    expect_one_way(&rt, alloc, &theory, &list);
+    drop(list);
+    drop(theory);
 }
 
 #[test]

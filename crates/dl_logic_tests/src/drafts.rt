@@ -183,6 +183,7 @@ pub(crate) fn edition(alloc: Global, draft: &mut Draft) -> Result<Held, Memory> 
 fn expect_draft(rt: &impl Abort, alloc: Global, draft: &mut Draft, concluded: &[Concluded]) {
     let held = edition(alloc, draft).expect(rt, "room");
     expect_concluded(rt, alloc, &held, concluded);
+    drop(held);
 }
 
 fn expect_concluded(rt: &impl Abort, alloc: Global, held: &Held, concluded: &[Concluded]) {
@@ -288,6 +289,11 @@ fn each_family_is_marked(rt: HostRuntime) {
     mark_ambiguous::<Brand>(&rt, rt.alloc(), Blank::new(1));
 }
 
+/// Whether an edit was refused since its label is there.
+fn is_label_there(touched: Result<(), EditStop>) -> bool {
+    matches!(touched, Err(EditStop::Refused(EditRefusal::LabelThere(_))))
+}
+
 /// An edit of a label that is there is refused, and a draft concludes what it did.
 fn refuse<L: Ledger>(rt: &impl Abort, alloc: Global, blank: Blank)
     requires name { blank.name ≡ L.name }
@@ -298,10 +304,8 @@ fn refuse<L: Ledger>(rt: &impl Abort, alloc: Global, blank: Blank)
     let theory = theory_of(rt, alloc, QUAKER);
     let mut draft = saturated(rt, alloc, &theory, &mut steps);
     let edit = edit_of(rt, alloc, "add r1: hawk => -dove");
-    match draft.touch(&edit, &mut steps) {
-        Err(EditStop::Refused(EditRefusal::LabelThere(_))) => {}
-        _ => panic!(rt; "not refused"),
-    }
+    let there = is_label_there(draft.touch(&edit, &mut steps));
+    assert!(rt; there, "not refused");
     expect_draft(rt, alloc, &mut draft, &QUAKER_CONCLUDED);
     drop(draft);
 }
@@ -323,6 +327,7 @@ fn share<L: Ledger>(rt: &impl Abort, alloc: Global, blank: Blank)
     let before = edition(alloc, &mut draft).expect(rt, "room");
     touch(rt, alloc, &mut draft, "drop r3 > r2", &mut steps);
     expect_concluded(rt, alloc, &before, &PENGUIN_CONCLUDED);
+    drop(before);
     expect_draft(rt, alloc, &mut draft, &TIED_CONCLUDED);
     drop(draft);
 }

@@ -5,7 +5,7 @@ use dl_edition::{Conclusion, Held};
 use dl_io::{MemorySink, write_all};
 use dl_lit::{Family, LiteralRef, Tagged};
 use dl_print::{write_conclusion, write_tagged};
-use dl_theory::{Answer, Certificate, Verdict};
+use dl_theory::{Answer, Certificate, TaggedList, Verdict};
 use std::alloc::Global;
 use std::process::Abort;
 
@@ -65,9 +65,24 @@ pub(crate) fn expect_copy(rt: &impl Abort, alloc: Global, held: &Held, lines: us
 
 fn ask(rt: &impl Abort, alloc: Global, held: &Held, family: Family, text: &str) -> Answer {
     let literal = literal_of(rt, alloc, text);
+    let verdict = held.verdict(family, &literal);
     let answer = held.ask(family, &literal).expect(rt, "an answer");
-    assert!(rt; answer.verdict == held.verdict(family, &literal));
+    assert!(rt; answer.verdict == verdict);
     answer
+}
+
+pub(crate) fn derivation_of(rt: &impl Abort, answer: Answer) -> TaggedList {
+    match answer.certificate {
+        Certificate::Derivation(list) => list,
+        Certificate::Gap(_) => panic!(rt; "a gap"),
+    }
+}
+
+pub(crate) fn gap_of(rt: &impl Abort, answer: Answer) -> TaggedList {
+    match answer.certificate {
+        Certificate::Gap(list) => list,
+        Certificate::Derivation(_) => panic!(rt; "a derivation"),
+    }
 }
 
 /// What an edition answers on a literal, with a derivation.
@@ -81,10 +96,8 @@ pub(crate) fn expect_derived(
 ) {
     let answer = ask(rt, alloc, held, family, text);
     assert!(rt; answer.verdict == verdict);
-    match &answer.certificate {
-        Certificate::Derivation(steps) => assert!(rt; steps.len() > 0),
-        Certificate::Gap(_) => assert!(rt; false),
-    }
+    let list = derivation_of(rt, answer);
+    assert!(rt; list.len() > 0);
 }
 
 fn expect_members(rt: &impl Abort, alloc: Global, members: &[Tagged], text: &str) {
@@ -108,8 +121,6 @@ pub(crate) fn expect_gap(
 ) {
     let answer = ask(rt, alloc, held, family, text);
     assert!(rt; answer.verdict == Verdict::Neither);
-    match &answer.certificate {
-        Certificate::Derivation(_) => assert!(rt; false),
-        Certificate::Gap(members) => expect_members(rt, alloc, members.as_slice(), gap),
-    }
+    let list = gap_of(rt, answer);
+    expect_members(rt, alloc, list.as_slice(), gap);
 }

@@ -265,15 +265,19 @@ fn edit_in_threads<L: Ledger + Send + Sync, R: Threads + Wait + Abort + Sync>(
     thread::map_vec(rt, seats, &|seat| toggle_all(rt, desk, seat, fact)).expect(rt, "room")
 }
 
+/// 1 where the edition proves the literal.
+fn counted_proof(held: &Held, literal: &Literal) -> u64 {
+    match held.ask(Family::Blocking, literal) {
+        Ok(answer) => (answer.verdict == Verdict::Proved) as u64,
+        Err(_) => 0,
+    }
+}
+
 /// Asks the edition 100 times. How often the literal was proved.
 fn ask_all(held: &Held, literal: &Literal) -> u64 {
     let mut proved = 0u64;
     for _ in 0..100 {
-        if let Ok(answer) = held.ask(Family::Blocking, literal) {
-            if answer.verdict == Verdict::Proved {
-                proved = proved.wrapping_add(1);
-            }
-        }
+        proved = proved.wrapping_add(counted_proof(held, literal));
     }
     proved
 }
@@ -285,6 +289,22 @@ fn ask_in_threads<R: Threads + Abort + Sync>(
     literal: &Literal,
 ) -> Vec<u64> {
     thread::map_vec(rt, holders, &|held| ask_all(&held, literal)).expect(rt, "room")
+}
+
+/// Holds an edition that is there.
+fn holding<L: Ledger, R: Wait + Abort>(
+    rt: &R,
+    desk: &Desk<L>,
+    seat: &mut DeskSeat<L>,
+    number: u64,
+) -> Held
+    requires { (seat.old.place ≡ desk.now) × MayCall seat.old }
+    ensures { (seat.new.place ≡ desk.now) × MayCall seat.new }
+{
+    match desk.hold(rt, seat, number).expect(rt, "an answer") {
+        HoldAnswer::Holding(held) => held,
+        HoldAnswer::Unpublished { .. } => panic!(rt; "no edition"),
+    }
 }
 
 /// Publishes a theory with the fact, and holds that edition.
@@ -300,10 +320,7 @@ fn published<L: Ledger, R: Wait + Abort>(
     let added = fact.copy().expect(rt, "a copy");
     assert!(rt; desk.edit(rt, seat, Edit::AddFact(added)).is_ok());
     let number = desk.publish(rt, seat).expect(rt, "an edition");
-    match desk.hold(rt, seat, number).expect(rt, "an answer") {
-        HoldAnswer::Holding(held) => held,
-        HoldAnswer::Unpublished { .. } => panic!(rt; "no edition"),
-    }
+    holding(rt, desk, seat, number)
 }
 
 /// The seats edit while the holders ask: how many edits were answered, and how often the literal was proved.
@@ -374,6 +391,11 @@ fn readers_ask_while_others_edit(rt: HostRuntime) {
     expect_answered::<Brand, _>(&rt, rt.alloc(), Blank::new(1));
 }
 
+/// Whether an edit was refused since the fact is not there.
+fn is_without_fact(edited: Result<(), EditStop>) -> bool {
+    matches!(edited, Err(EditStop::Refused(EditRefusal::NoFact)))
+}
+
 /// A refused edit, an edition, an edit that is made, and one more edition.
 fn expect_editions<L: Ledger, R: Wait + Abort>(
     rt: &R,
@@ -384,21 +406,16 @@ fn expect_editions<L: Ledger, R: Wait + Abort>(
     requires { (seat.old.place ≡ desk.now) × MayCall seat.old }
     ensures { (seat.new.place ≡ desk.now) × MayCall seat.new }
 {
-    let unknown = desk.edit(rt, seat, Edit::DropFact(fact.copy().expect(rt, "a copy")));
-    assert!(rt; matches!(unknown, Err(EditStop::Refused(EditRefusal::NoFact))));
+    let dropped = fact.copy().expect(rt, "a copy");
+    assert!(rt; is_without_fact(desk.edit(rt, seat, Edit::DropFact(dropped))));
     assert!(rt; desk.publish(rt, seat).expect(rt, "an edition") == 0);
-    let added = desk.edit(rt, seat, Edit::AddFact(fact.copy().expect(rt, "a copy")));
-    assert!(rt; added.is_ok());
+    let added = fact.copy().expect(rt, "a copy");
+    assert!(rt; desk.edit(rt, seat, Edit::AddFact(added)).is_ok());
     assert!(rt; desk.publish(rt, seat).expect(rt, "an edition") == 1);
 }
 
-/// Of two editions the first has no fact, and there is no edition 5.
-fn expect_holds<L: Ledger, R: Wait + Abort>(
-    rt: &R,
-    desk: &Desk<L>,
-    seat: &mut DeskSeat<L>,
-    fact: &Literal,
-)
+/// There is no edition 5, of two.
+fn expect_unpublished<L: Ledger, R: Wait + Abort>(rt: &R, desk: &Desk<L>, seat: &mut DeskSeat<L>)
     requires { (seat.old.place ≡ desk.now) × MayCall seat.old }
     ensures { (seat.new.place ≡ desk.now) × MayCall seat.new }
 {
@@ -406,14 +423,14 @@ fn expect_holds<L: Ledger, R: Wait + Abort>(
         HoldAnswer::Unpublished { asked, published } => assert!(rt; asked == 5 && published == 2),
         HoldAnswer::Holding(_) => panic!(rt; "an edition"),
     }
-    match desk.hold(rt, seat, 0).expect(rt, "an answer") {
-        HoldAnswer::Holding(held) => {
-            assert!(rt; held.number() == 0);
-            let answer = held.ask(Family::Definite, fact).expect(rt, "an answer");
-            assert!(rt; answer.verdict == Verdict::Refuted);
-        }
-        HoldAnswer::Unpublished { .. } => panic!(rt; "no edition"),
-    }
+}
+
+/// The first edition has no fact.
+fn expect_refuted(rt: &impl Abort, held: &Held, fact: &Literal) {
+    assert!(rt; held.number() == 0);
+    let answer = held.ask(Family::Definite, fact).expect(rt, "an answer");
+    assert!(rt; answer.verdict == Verdict::Refuted);
+    drop(answer);
 }
 
 /// The board after one seat has made each call.
@@ -433,7 +450,10 @@ fn after_each_call<L: Ledger, R: Wait + Abort>(
     assert!(rt; first.number().is_none());
     assert!(rt; seat.number() == Some(0));
     expect_editions(rt, &desk, &mut seat, fact);
-    expect_holds(rt, &desk, &mut seat, fact);
+    expect_unpublished(rt, &desk, &mut seat);
+    let held = holding(rt, &desk, &mut seat, 0);
+    expect_refuted(rt, &held, fact);
+    drop(held);
     let (board, seat) = desk.finish(rt, seat);
     assert!(rt; seat.number() == Some(0));
     board
