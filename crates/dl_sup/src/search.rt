@@ -1,8 +1,8 @@
 //! The search for a path, from both of its ends in turn.
 
-ghost use Rattle.std.specs.Prelude.{◌≡◌, ◌≢◌, ℕ, ◌<◌, ◌++◌, ◌∷◌, OnOk, IfOk, MatchOption, length, reverse};
+ghost use Rattle.std.specs.Prelude.{◌≡◌, ◌≢◌, ℕ, ◌<◌, ◌++◌, ◌∷◌, OnOk, IfOk, MatchOption, Contains, length, reverse};
 ghost use Rattle.dl_sup.specs.Slots.{live, IsChained};
-ghost use Rattle.dl_sup.specs.Searching.{item_at, trail, Falls, IsApart, IsFront, IsWalk};
+ghost use Rattle.dl_sup.specs.Searching.{items_of, item_at, trail, Falls, IsApart, IsFront, IsWalk};
 
 use crate::front::{Front, begin, step};
 use crate::heads::Heads;
@@ -38,15 +38,35 @@ pub(crate) fn search(
 {
     let mut low = begin(alloc, from, downs)?;
     let mut high = begin(alloc, to, ups)?;
+    meet(alloc, slots, downs, ups, &mut low, &mut high)
+}
+
+/// Turns both ends until they meet, or until one of them has met all that it leads to.
+fn meet(
+    alloc: Global,
+    slots: &[Slot],
+    downs: &Heads,
+    ups: &Heads,
+    low: &mut Front,
+    high: &mut Front,
+) -> Result<Option<Track>, Memory>
+    requires below { IsChained Way.Down slots.now downs.now }
+    requires over { IsChained Way.Up slots.now ups.now }
+    requires low { IsFront Way.Down slots.now low.old }
+    requires high { IsFront Way.Up slots.now high.old }
+    requires low_lacks { ¬ Contains (items_of low.old.visits) (item_at high.old.visits 0) }
+    requires high_lacks { ¬ Contains (items_of high.old.visits) (item_at low.old.visits 0) }
+    ensures { IfOk result (λ found. MatchOption found (IsApart (live slots.now) (item_at low.old.visits 0) (item_at high.old.visits 0)) (IsWalk (live slots.now) (item_at low.old.visits 0) (item_at high.old.visits 0))) }
+{
     loop {
-        match advance(&mut low, Way::Down, slots, downs, &high.visits)? {
+        match advance(low, Way::Down, slots, downs, &high.visits)? {
             Turn::Ended => return Ok(None),
             Turn::Met { here, there } => {
                 return Ok(Some(join(alloc, &low.visits, here, &high.visits, there)?));
             }
             Turn::Open => {}
         }
-        match advance(&mut high, Way::Up, slots, ups, &low.visits)? {
+        match advance(high, Way::Up, slots, ups, &low.visits)? {
             Turn::Ended => return Ok(None),
             Turn::Met { here, there } => {
                 return Ok(Some(join(alloc, &low.visits, there, &high.visits, here)?));

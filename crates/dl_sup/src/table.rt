@@ -13,7 +13,6 @@ use std::alloc::Global;
 use std::marker::Model;
 
 /// Distinct pairs. A pair that goes leaves its place empty.
-#[derive(Drop)]
 pub(crate) struct Table {
     slots: Vec<Slot>,
     places: Places,
@@ -23,6 +22,18 @@ pub(crate) struct Table {
     ups: Heads,
     /// How many places were emptied since the last `tidy`, or more.
     gone: usize,
+}
+
+impl Drop for Table {
+    fn drop(self) {
+        let Table {
+            slots: _,
+            places: _,
+            downs: _,
+            ups: _,
+            gone: _,
+        } = self;
+    }
 }
 
 impl Model for Table {

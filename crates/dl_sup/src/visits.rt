@@ -8,9 +8,14 @@ use std::alloc::Global;
 use std::marker::Model;
 
 /// Distinct items in the order of their first visits, each with the place of the item from which it was met.
-#[derive(Drop)]
 pub(crate) struct Visits {
     map: IndexMap<usize, usize>,
+}
+
+impl Drop for Visits {
+    fn drop(self) {
+        let Visits { map: _ } = self;
+    }
 }
 
 impl Model for Visits {
