@@ -22,7 +22,11 @@ pub struct BlockWork {
 
 impl Drop for BlockWork {
     fn drop(self) {
-        let BlockWork { alloc: _, places: _, parts: _ } = self;
+        let BlockWork {
+            alloc: _,
+            places: _,
+            parts: _,
+        } = self;
     }
 }
 

@@ -29,7 +29,14 @@ pub struct Board<L: Ledger> {
 
 impl<L: Ledger> Drop for Board<L> {
     fn drop(self) {
-        let Board { start: _, draft: _, editions: _, entries: _, count: _, book: _ } = self;
+        let Board {
+            start: _,
+            draft: _,
+            editions: _,
+            entries: _,
+            count: _,
+            book: _,
+        } = self;
     }
 }
 

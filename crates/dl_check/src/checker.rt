@@ -34,7 +34,12 @@ pub struct Checker {
 
 impl Drop for Checker {
     fn drop(self) {
-        let Checker { alloc: _, facts: _, rules: _, above: _ } = self;
+        let Checker {
+            alloc: _,
+            facts: _,
+            rules: _,
+            above: _,
+        } = self;
     }
 }
 

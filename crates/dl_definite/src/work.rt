@@ -22,7 +22,11 @@ pub struct DefiniteWork {
 
 impl Drop for DefiniteWork {
     fn drop(self) {
-        let DefiniteWork { alloc: _, places: _, parts: _ } = self;
+        let DefiniteWork {
+            alloc: _,
+            places: _,
+            parts: _,
+        } = self;
     }
 }
 

@@ -29,7 +29,12 @@ pub struct Concluded {
 
 impl Drop for Concluded {
     fn drop(self) {
-        let Concluded { net: _, marks: _, family: _, order: _ } = self;
+        let Concluded {
+            net: _,
+            marks: _,
+            family: _,
+            order: _,
+        } = self;
     }
 }
 

@@ -36,7 +36,11 @@ pub(crate) struct Edition {
 
 impl Drop for Edition {
     fn drop(self) {
-        let Edition { net: _, marks: _, order: _ } = self;
+        let Edition {
+            net: _,
+            marks: _,
+            order: _,
+        } = self;
     }
 }
 

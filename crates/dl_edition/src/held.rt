@@ -31,7 +31,10 @@ pub struct Held {
 
 impl Drop for Held {
     fn drop(self) {
-        let Held { number: _, edition: _ } = self;
+        let Held {
+            number: _,
+            edition: _,
+        } = self;
     }
 }
 

@@ -21,7 +21,10 @@ pub struct Names {
 
 impl Drop for Names {
     fn drop(self) {
-        let Names { literals: _, frozen: _ } = self;
+        let Names {
+            literals: _,
+            frozen: _,
+        } = self;
     }
 }
 

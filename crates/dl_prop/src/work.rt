@@ -22,7 +22,11 @@ pub struct PropWork {
 
 impl Drop for PropWork {
     fn drop(self) {
-        let PropWork { alloc: _, places: _, parts: _ } = self;
+        let PropWork {
+            alloc: _,
+            places: _,
+            parts: _,
+        } = self;
     }
 }
 

@@ -26,7 +26,11 @@ pub struct Theory {
 
 impl Drop for Theory {
     fn drop(self) {
-        let Theory { facts: _, rules: _, pairs: _ } = self;
+        let Theory {
+            facts: _,
+            rules: _,
+            pairs: _,
+        } = self;
     }
 }
 

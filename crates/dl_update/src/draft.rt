@@ -39,7 +39,13 @@ pub struct Draft<N: DraftNet = Net> {
 
 impl<N: DraftNet> Drop for Draft<N> {
     fn drop(self) {
-        let Draft { alloc: _, net: _, marks: _, works: _, frozen: _ } = self;
+        let Draft {
+            alloc: _,
+            net: _,
+            marks: _,
+            works: _,
+            frozen: _,
+        } = self;
     }
 }
 
