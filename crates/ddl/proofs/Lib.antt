@@ -1,3 +1,4 @@
+pub mod Handing
 pub mod Known
 pub mod Loading
 pub mod Replies

@@ -10,12 +10,12 @@ closed : (b f : Bool) → f ≡ false → cond b false (cond b true f) ≡ false
 closed true f shut = refl
 closed false f shut = shut
 
-module _ (tells : Bool) (old now : HouseState) (written : Option (List ℕ)) (faults : ℕ) (words : List (List ℕ)) (status : Status) where
+module _ (tells : Bool) (old now : HouseState) (handed : Option (List ℕ)) (faults : ℕ) (words : List (List ℕ)) (status : Status) where
   abbrev opened : HouseState
   opened = opened_out old standard
 
   abbrev settled : HouseState
-  settled = settled_out now standard written faults
+  settled = settled_out now standard handed faults
 
   answers : Answers tells opened settled words status → Answers tells old settled words status
   answers (inl says) = inl (record { no_fault = says.no_fault; may_end = says.may_end; shown = says.shown })
@@ -34,13 +34,13 @@ module _ (tells : Bool) (old now : HouseState) (written : Option (List ℕ)) (fa
     answer = answers answer;
   }
 
-pub run_on : (tells : Bool) (old opened now settled : HouseState) (dash : List ℕ) (written : Option (List ℕ)) (faults : ℕ) (words : List (List ℕ)) (status : Status)
+pub run_on : (tells : Bool) (old opened now settled : HouseState) (dash : List ℕ) (handed : Option (List ℕ)) (faults : ℕ) (words : List (List ℕ)) (status : Status)
     → dash ≡ standard → IsShut old → opened ≡ opened_out old dash → ReadsOnly opened now (files_of words)
-    → Answers tells opened (settled_out now standard written faults) words status → settled ≡ settled_out now dash written faults → Runs tells old settled words status
-run_on tells old opened now settled dash written faults words status is_dash shut opens reads answer settles =
+    → Answers tells opened (settled_out now standard handed faults) words status → settled ≡ settled_out now dash handed faults → Runs tells old settled words status
+run_on tells old opened now settled dash handed faults words status is_dash shut opens reads answer settles =
     let opens_standard : opened ≡ opened_out old standard = opens ∙ ap (opened_out old) is_dash in
-    let settles_standard : settled ≡ settled_out now standard written faults = settles ∙ ap (λ name. settled_out now name written faults) is_dash in
+    let settles_standard : settled ≡ settled_out now standard handed faults = settles ∙ ap (λ name. settled_out now name handed faults) is_dash in
     let Reads : HouseState → Type 0 = λ house. ReadsOnly house now (files_of words) in
-    let Answer : HouseState → Type 0 = λ house. Answers tells house (settled_out now standard written faults) words status in
+    let Answer : HouseState → Type 0 = λ house. Answers tells house (settled_out now standard handed faults) words status in
     let Run : HouseState → Type 0 = λ house. Runs tells old house words status in
-    subst Run (sym settles_standard) (run_at tells old now written faults words status shut (subst Reads opens_standard reads) (subst Answer opens_standard answer))
+    subst Run (sym settles_standard) (run_at tells old now handed faults words status shut (subst Reads opens_standard reads) (subst Answer opens_standard answer))

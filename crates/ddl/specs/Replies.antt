@@ -1,5 +1,6 @@
 -- What the program says, and how it ends then.
-use Rattle.std.specs.Prelude.{ℕ, List, codes}
+use Rattle.std.specs.Prelude.{◌≡◌, ℕ, List, Option, Result, MatchResult, codes}
+use Rattle.dl_io.specs.Streams.{IsKnownFront}
 use Rattle.dl_print.specs.Text.{theory_text}
 use Rattle.ddl.specs.declared.status.Status.{Status}
 use Rattle.ddl.specs.declared.status.Status.TheVariants as status
@@ -27,3 +28,7 @@ reply_text (reply.Refused x) = refused_line x
 reply_text (reply.Conclusions f cs) = conclusions_text f cs
 reply_text (reply.Text T) = theory_text T
 reply_text (reply.Checked x) = checked_line x
+
+-- Ok handed on all that was written, and a failure a front of it.
+abbrev pub HandsOn : {T E : Type 0} → Option (List ℕ) → Option (List ℕ) → Result T E → Type 0
+HandsOn handed written result = MatchResult result (λ _. handed ≡ written) (λ _. IsKnownFront handed written)

@@ -21,7 +21,7 @@ use Rattle.ddl.specs.Conclusions.{conclusions_text}
 use Rattle.ddl.specs.declared.reply.Reply.{Reply}
 use Rattle.ddl.specs.Replies.{usage_line, reply_status, reply_text}
 
--- what stands on standard output, and the status
+-- what was handed on to standard output, and the status
 pub record Outcome : Type 0 where
   pub status : Status
   pub text : List ℕ
@@ -92,13 +92,13 @@ IsReply house words reply = IsOutcome words house.holds (outcome_of reply)
 abbrev pub IsBegun : List (List ℕ) → (List ℕ → Option (List ℕ)) → List ℕ → Type 0
 IsBegun words holds front = (front ≡ []) ⊎ ((outcome : Outcome) × IsOutcome words holds outcome × IsFront front outcome.text)
 
--- The program said what its words ask for. Nothing failed.
+-- The program said what its words ask for, and all of it was handed on to standard output. Nothing failed.
 pub record Says (tells : Bool) (old new : HouseState) (words : List (List ℕ)) (ends : Status) : Type 0 where
   pub no_fault : new.faults ≡ old.faults
   pub may_end : MayEnd (form words) ends
   pub shown : IsTrue tells → (outcome : Outcome) × IsOutcome words old.holds outcome × (ends ≡ outcome.status) × (new.wrote ≡ at_name old.wrote standard (Some outcome.text))
 
--- The program stopped before: standard output, and nothing else, got a front of what its words ask for.
+-- The program stopped before: a front of what its words ask for was handed on to standard output, and nothing else.
 abbrev pub Stops : Bool → HouseState → HouseState → List (List ℕ) → Type 0
 Stops tells old new words = IsTrue tells → (new.wrote ≡ old.wrote) ⊎ ((front : List ℕ) × IsBegun words old.holds front × (new.wrote ≡ at_name old.wrote standard (Some front)))
 

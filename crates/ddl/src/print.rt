@@ -12,7 +12,7 @@ ghost use Rattle.dl_print.specs.Room.{HasRoom, Puts};
 ghost use Rattle.ddl.specs.Theories.{line_front, line_text, refusal_words, refused_line};
 ghost use Rattle.ddl.specs.Checks.{checked_line};
 ghost use Rattle.ddl.specs.Conclusions.{conclusion_line, conclusions_text, lines_before};
-ghost use Rattle.ddl.specs.Replies.{usage_line, reply_text};
+ghost use Rattle.ddl.specs.Replies.{usage_line, reply_text, HandsOn};
 
 use crate::check::Checked;
 use crate::refusal::Refusal;
@@ -273,6 +273,7 @@ fn write_reply<S: Sink>(alloc: Global, sink: &mut S, reply: &Reply) -> Result<()
 /// Writes the reply and flushes, also where the reply was cut short.
 pub fn print<S: Sink>(alloc: Global, sink: &mut S, reply: &Reply) -> Result<(), Failed>
     ensures bytes { WritesAll (S.written sink.old) (S.written sink.new) result (reply_text reply.now) }
+    ensures handed { HandsOn (S.handed sink.new) (S.written sink.new) result }
     ensures cause { HasCause (S.faults sink.old) (S.faults sink.new) result }
     ensures name { S.name sink.new ≡ S.name sink.old }
 {

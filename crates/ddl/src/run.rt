@@ -4,7 +4,7 @@ ghost use Rattle.std.specs.Prelude.{◌≡◌, ◌⊎◌, ◌∷◌, [], List, �
 ghost use Rattle.dl_io.specs.House.{IsShut, IsOpenedOut, settled_out, standard};
 ghost use Rattle.dl_io.specs.Outside.{HasCause};
 ghost use Rattle.dl_io.specs.Streams.{WritesAll};
-ghost use Rattle.ddl.specs.Replies.{reply_status, reply_text};
+ghost use Rattle.ddl.specs.Replies.{reply_status, reply_text, HandsOn};
 ghost use Rattle.ddl.specs.Run.{Runs, Answers, ReadsOnly, IsReply, MayEnd, Shows, outcome_of, files_for, files_of};
 ghost use Rattle.ddl.specs.Certified.{SaysOfCertificate};
 ghost use Rattle.ddl.specs.Theories.{limit, HoldsTheory, HoldsNumbered};
@@ -155,9 +155,10 @@ fn reply_to<H: House>(alloc: Global, words: &Vec<String>, house: &mut H) -> Resu
     }
 }
 
-// Prints a reply and leaves what it holds to the system.
+// Prints a reply, hands it on, and leaves what it holds to the system.
 fn say<S: Sink>(alloc: Global, sink: &mut S, reply: Reply) -> Result<(), Failed>
     ensures bytes { WritesAll (S.written sink.old) (S.written sink.new) result (reply_text reply) }
+    ensures handed { HandsOn (S.handed sink.new) (S.written sink.new) result }
     ensures cause { HasCause (S.faults sink.old) (S.faults sink.new) result }
     ensures name { S.name sink.new ≡ S.name sink.old }
 {
@@ -170,11 +171,11 @@ fn say<S: Sink>(alloc: Global, sink: &mut S, reply: Reply) -> Result<(), Failed>
 // Replies to the words on a new sink, which is then to be settled as standard output.
 fn respond<H: House>(alloc: Global, words: &Vec<String>, house: &mut H, sink: &mut H::Out) -> Status
     requires shut { (name : List ℕ) → (H.state house.old).open_in name ≡ false }
-    requires opened { IsOpenedOut H.tells standard (H.Out.written sink.old) (H.Out.name sink.old) (H.Out.faults sink.old) }
+    requires opened { IsOpenedOut H.tells standard (H.Out.written sink.old) (H.Out.handed sink.old) (H.Out.name sink.old) (H.Out.faults sink.old) }
     ensures house { ReadsOnly (H.state house.old) (H.state house.new) (files_of (map string_bytes words.now.items)) }
     ensures name { H.Out.name sink.new ≡ standard }
     ensures answer { Answers H.tells (H.state house.old)
-        (settled_out (H.state house.new) standard (H.Out.written sink.new) (H.Out.faults sink.new))
+        (settled_out (H.state house.new) standard (H.Out.handed sink.new) (H.Out.faults sink.new))
         (map string_bytes words.now.items) result }
 {
     match reply_to(alloc, words, house) {
