@@ -1,6 +1,6 @@
 -- Pairs added one after another, by their numbers.
 use Rattle.std.proofs.Common.{◌≡◌, ℕ, zero, suc, ◌+◌, ◌-◌, ◌<◌, ◌≤◌, List, [], ◌∷◌, ◌++◌, Option, None, Some, Result, Ok, Err, length, map, take, get_or, filter, not, is_some, true, false, inl, inr, refl, sym, ap, subst, ◌∙◌, append_assoc, arith, length-append}
-use Rattle.std.specs.Prelude.{All, Contains, IfOk, slice_get}
+use Rattle.std.specs.Prelude.{All, Contains, IfOk, OnErr, slice_get}
 use Rattle.std.specs.Option.{option_map_or, option_map, IfSome}
 use Rattle.std.proofs.lemmas.List.{append-nil, take_all, length-map, length-take-le, map-append, take-append-le, take-map, take-take, take_more}
 use Rattle.std.proofs.Math.Seq.{take-append-add}
@@ -126,13 +126,14 @@ module _ (items : List (List ℕ)) (order links : List Link) (pairs : List Pair)
             (adds_named items h.distinct [] order links (All-nil (IsWithin items)) h.within refused o));
       }
 
-  pub loaded_as : (refused : Option PairRefused) (kept : ℕ) (same_items : List (List ℕ)) (same_links : List Link)
-      → kept ≡ option_map_or (λ r. r.at) refused (length pairs) → same_items ≡ items → same_links ≡ links
-      → OrdersAll same_items [] order same_links refused → IsLoaded items order pairs refused kept
-  loaded_as refused kept same_items same_links e is_items is_links o =
-      loaded refused kept e
-      (subst (λ (ls : List (List ℕ)). OrdersAll ls [] order links refused) is_items
-      (subst (λ (ls : List Link). OrdersAll same_items [] order ls refused) is_links o))
+-- an order of the numbers, whose lists were read as slices
+pub ordered_as : {E : Type 0} (items same_items : List (List ℕ)) (links same_links : List Link) (pairs : List Pair)
+    (r : Result (List Link × Option PairRefused) E) → same_items ≡ items → same_links ≡ links → IsNumbered items links pairs
+    → IfOk r (λ x. OrdersAll same_items [] x.0 same_links x.1)
+    → IfOk r (λ x. (ls : List Link) × IsNumbered items ls pairs × OrdersAll items [] x.0 ls x.1)
+ordered_as items same_items links same_links pairs (Ok x) is_items is_links h o =
+    (links, h, subst (λ (ls : List (List ℕ)). OrdersAll ls [] x.0 links x.1) is_items (subst (λ (ls : List Link). OrdersAll same_items [] x.0 ls x.1) is_links o))
+ordered_as items same_items links same_links pairs (Err e) is_items is_links h o = tt
 
 slice_get-append_left : (xs ys : List Pair) (i : ℕ) → i < length xs → slice_get (xs ++ ys) i ≡ slice_get xs i
 slice_get-append_left [] ys i h = absurd (omega (arith, h))
@@ -322,3 +323,9 @@ behind_as old pairs new all n refused e joined distinct acyclic few a =
       subst (λ (k : ℕ). IfSome refused (λ r. k ≤ r.at)) (sym e) (all_behind old pairs new free few refused adds),
       subst (λ (k : ℕ). AddsAll old new pairs (option_map (moved_back k) refused)) (sym e) (added_behind old pairs new free few refused adds),
     )
+
+-- pairs for which there is room leave the list within its limit, also where none came
+pub few_left : {E : Type 0} (old new pairs : List Pair) (limit : ℕ) (r : Result (Option PairRefused) E) → length old + length pairs ≤ limit
+    → IfOk r (AddsAll old new pairs) → OnErr r (new ≡ old) → length new ≤ limit
+few_left old new pairs limit (Ok refused) room added kept = omega (arith, added_length old new pairs refused added, room)
+few_left old new pairs limit (Err e) room added kept = omega (arith, ap length kept, room)

@@ -12,10 +12,18 @@ use std::alloc::Global;
 use std::marker::Model;
 
 /// A list of rules. A label's place among the labels is its rule's place.
-#[derive(Drop)]
 pub(crate) struct Rules {
     items: Vec<Rule>,
     labels: NameSet<Name>,
+}
+
+impl Drop for Rules {
+    fn drop(self) {
+        let Rules {
+            items: _,
+            labels: _,
+        } = self;
+    }
 }
 
 impl Model for Rules {

@@ -7,6 +7,7 @@ ghost use Rattle.dl_base.specs.Paths.{IsDistinct, HasCycle};
 ghost use Rattle.dl_theory.specs.Edits.{after_edits, additions, AreAccepted, AreThere, IsPairsStop};
 ghost use Rattle.dl_theory.specs.Lists as lists;
 ghost use Rattle.dl_theory.specs.Lists.{TheoryLists, IsAbove, IsWellFormed};
+ghost use Rattle.dl_sup.specs.declared.link.Link.{Link};
 ghost use Rattle.dl_sup.specs.Links.{names_item};
 ghost use Rattle.dl_sup.specs.Adding.{ClosesCycle};
 ghost use Rattle.dl_theory.specs.Pairs.{pair_eq, Closes, label_at, named, IsWithin, IsNumbered, IsNumberOf};
@@ -63,7 +64,6 @@ impl From<Memory> for PairStop {
 /// A list of pairs without cycles.
 // Each label that ever stood in a pair has its place among the items, and the order has, for each pair, the places of its labels. So the
 // order tells whether a pair is in the list.
-#[derive(Drop)]
 pub(crate) struct Superiority {
     pairs: Vec<Pair>,
     /// The places that the rules of each pair had when it was added, or fewer. They are tried first where these rules are sought, and
@@ -71,6 +71,17 @@ pub(crate) struct Superiority {
     hints: Vec<Link>,
     items: NameSet<Name>,
     order: Order,
+}
+
+impl Drop for Superiority {
+    fn drop(self) {
+        let Superiority {
+            pairs: _,
+            hints: _,
+            items: _,
+            order: _,
+        } = self;
+    }
 }
 
 impl Model for Superiority {
@@ -129,11 +140,9 @@ impl Superiority {
         ensures { IfOk result (λ r. AddsAll [] r.0 pairs.now r.1) }
     {
         let mut items = name_set(alloc);
-        let links = number_all(alloc, &mut items, pairs, hints.as_slice())?;
-        let (order, refused) = order_of(alloc, items.as_slice(), links.as_slice())?;
+        let (order, refused) = ordered(alloc, &mut items, pairs, hints.as_slice())?;
         let kept = kept_len(&refused, pairs.len());
-        let mut front = Vec::with_capacity(alloc, kept)?;
-        copy_behind(&mut front, &pairs[..kept])?;
+        let front = copied(alloc, &pairs[..kept])?;
         Ok((
             Superiority {
                 pairs: front,
@@ -427,6 +436,20 @@ fn joined_hints(
     Ok(hints)
 }
 
+/// An order of the numbers of pairs, or of those before the first that is refused.
+fn ordered(
+    alloc: Global,
+    items: &mut NameSet<Name>,
+    pairs: &[Pair],
+    hints: &[Link],
+) -> Result<(Order, Option<PairRefused>), Memory>
+    requires { IsDistinct items.old.keys }
+    ensures { IfOk result (λ r. (links : List Link) × IsNumbered items.new.keys links pairs.now × OrdersAll items.new.keys [] r.0 links r.1) }
+{
+    let links = number_all(alloc, items, pairs, hints)?;
+    order_of(alloc, items.as_slice(), links.as_slice())
+}
+
 /// An order of pairs of numbers, or of those before the first that is refused.
 fn order_of(
     alloc: Global,
@@ -487,6 +510,14 @@ fn later(refused: Option<PairRefused>, by: usize) -> Option<PairRefused>
             cause: refused.cause,
         }),
     }
+}
+
+fn copied(alloc: Global, pairs: &[Pair]) -> Result<Vec<Pair>, Memory>
+    ensures { IfOk result (λ all. all.items ≡ pairs.now) }
+{
+    let mut all = Vec::with_capacity(alloc, pairs.len())?;
+    copy_behind(&mut all, pairs)?;
+    Ok(all)
 }
 
 fn joined(alloc: Global, old: &[Pair], new: &[Pair]) -> Result<Vec<Pair>, Memory>

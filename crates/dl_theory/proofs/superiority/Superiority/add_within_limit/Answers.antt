@@ -2,8 +2,13 @@ use Rattle.std.proofs.Common.{◌≡◌, ℕ, ◌<◌, ◌-◌, ◌+◌, ◌++�
 use Rattle.std.proofs.lemmas.List.{length-take-le}
 use Rattle.dl_base.specs.Paths.{IsDistinct}
 use Rattle.dl_theory.specs.declared.rule.Pair.{Pair}
-use Rattle.dl_theory.proofs.Loads.{within_added, none_added, left_behind, full_behind, free_distinct}
+use Rattle.dl_theory.proofs.Loads.{within_added, none_added, left_behind, full_behind, free_distinct, few_left}
 use Rattle.dl_theory.proofs.superiority.Superiority.add_within_limit.Goals as goal
+
+pub returns-then-pairs-room-clause-few : goal.returns-then-pairs-room-clause-few
+returns-then-pairs-room-clause-few c =
+    few_left c.args.self.now c.add_all.new.self c.args.pairs.now 1000000 c.add_all.result (omega (arith, c.if-pairs-room.true, c.len-room.ensures, c.requires.few))
+    c.add_all.ensures.added c.add_all.ensures.kept
 
 pub returns-then-is_some-clause-added : goal.returns-then-is_some-clause-added
 returns-then-is_some-clause-added c =
