@@ -25,12 +25,17 @@ fn expect_edit(rt: &impl Abort, alloc: Global, seat: u64, edit: &str, reply: Rep
     expect_line(rt, alloc, seat, call, reply, line);
 }
 
-fn cycle(rt: &impl Abort, alloc: Global) -> Reply {
+fn path_of(rt: &impl Abort, alloc: Global, labels: &[&str]) -> Path {
     let mut path = Path::make(alloc);
-    for text in ["s", "t", "r"] {
-        let pushed = path.push(name(rt, alloc, text));
+    for label in labels {
+        let pushed = path.push(name(rt, alloc, label));
         assert!(rt; pushed.is_ok());
     }
+    path
+}
+
+fn cycle(rt: &impl Abort, alloc: Global) -> Reply {
+    let path = path_of(rt, alloc, &["s", "t", "r"]);
     Reply::EditRefused(EditRefusal::Cycle(path))
 }
 

@@ -104,10 +104,12 @@ fn expect_rules(rt: &impl Abort, theory: &Theory, want: &[(usize, usize)]) {
     expect_places(rt, &pairs, want);
 }
 
+const LABELS: [&str; 3] = ["r1", "r2", "r3"];
+
 /// The labels r1, r2 and r3.
 fn three_labels(rt: &impl Abort, alloc: Global) -> NameSet<Name> {
     let mut labels = name_set(alloc);
-    for label in ["r1", "r2", "r3"] {
+    for label in LABELS.iter() {
         let done = labels.insert(name(rt, alloc, label));
         assert!(rt; done.is_ok());
     }
