@@ -10,9 +10,14 @@ use dl_lit::{Family, Literal, Memory, Tag, Tagged};
 use std::alloc::Global;
 
 /// Tagged literals: for each literal the tags under which it stands.
-#[derive(Drop)]
 pub struct Members {
     pub tags: Groups<Literal, Tag>,
+}
+
+impl Drop for Members {
+    fn drop(self) {
+        let Members { tags: _ } = self;
+    }
 }
 
 /// How a list is read: its members count as derived, or what is not in it does.
