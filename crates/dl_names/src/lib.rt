@@ -17,5 +17,5 @@ mod whole_pairs;
 
 pub use atom_pairs::AtomPairs;
 pub use pair_set::PairSet;
-pub use paired_names::PairedNames;
+pub use paired_names::{PairedNames, other};
 pub use whole_pairs::WholePairs;

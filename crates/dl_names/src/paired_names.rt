@@ -6,7 +6,7 @@ ghost use Rattle.dl_base.specs.Paths.{IsDistinct};
 ghost use Rattle.dl_lit.specs.Borrowed.{literal_of};
 ghost use Rattle.dl_lit.specs.Literal.{literal_eq, complement};
 ghost use Rattle.dl_lit.specs.Names.{no_names, with_both};
-ghost use Rattle.dl_names.specs.Paired.{IsPaired};
+ghost use Rattle.dl_names.specs.Paired.{IsPaired, flip};
 ghost use Rattle.dl_names.specs.Pairs.{firsts_of, pairs_of};
 
 use crate::both::Both;
@@ -234,4 +234,16 @@ fn copied(alloc: Global, pairs: &[Both]) -> Result<PairedNames<WholePairs>, Memo
         names.number(both.first(), true)?;
     }
     Ok(names)
+}
+
+/// The number of the complement: literals stand beside their complements.
+pub fn other(number: usize) -> usize
+    requires { number < 2 ^ 63 }
+    ensures { result ≡ flip number }
+{
+    if number % 2 == 0 {
+        number + 1
+    } else {
+        number - 1
+    }
 }

@@ -28,7 +28,7 @@ use Rattle.dl_net.specs.Numbers.{no_rule, mark_row, labelled}
 use Rattle.dl_net.specs.Above.{lower_step, upper_step}
 use Rattle.dl_names.specs.Paired.{flip, IsPaired, number_in}
 use Rattle.dl_net.specs.Named.{HasLiterals, line_in}
-use Rattle.dl_net.specs.Lines.{Line, no_line, IsWithin}
+use Rattle.dl_rules.specs.Lines.{Line, no_line, IsWithin}
 use Rattle.dl_rows.specs.Tables.{list_of}
 use Rattle.dl_names.proofs.NameLemmas.{number_at, number_within, paired_at}
 use Rattle.dl_rows.proofs.TableLemmas.{map_changed}

@@ -25,12 +25,12 @@ use Rattle.dl_net.specs.Named.{line_in}
 use Rattle.dl_rows.specs.Tables.{drop_item, list_of}
 use Rattle.dl_net.specs.KeptNet.{HasIndex, numbered}
 use Rattle.dl_net.specs.Above.{lower_step, upper_step}
-use Rattle.dl_net.specs.Lines.{Line, IndexLists, place_without, list_without}
+use Rattle.dl_rules.specs.Lines.{Line, IndexLists, place_without, list_without}
 use Rattle.dl_rows.proofs.NumberLists.{alike, differ}
 use Rattle.dl_net.proofs.AboveLemmas.{none_here, lower_here, lower_elsewhere, upper_here, upper_elsewhere}
 use Rattle.dl_rows.proofs.TableLemmas.{map_changed}
-use Rattle.dl_net.proofs.TakeLemmas.{drop_idle}
-use Rattle.dl_net.proofs.RuleLemmas.{All-by_member}
+use Rattle.dl_rules.proofs.TakeLemmas.{drop_idle}
+use Rattle.dl_rules.proofs.RuleLemmas.{All-by_member}
 
 -- ---- places when one goes
 

@@ -13,7 +13,7 @@ use Rattle.dl_rows.specs.Rows.{places_from, places}
 use Rattle.dl_net.specs.Numbers.{NetLists, IsNumbered, no_literal, literal_at, number, number_of_other, opposes_row}
 use Rattle.dl_net.specs.Named.{head_row}
 use Rattle.dl_names.proofs.NameLemmas.{complement_twice}
-use Rattle.dl_net.proofs.PlaceLemmas.{one, times_single}
+use Rattle.dl_rules.proofs.PlaceLemmas.{one, times_single}
 
 pub places_same : {X : Type 0} (f g : X → List ℕ) (q r : ℕ) (xs : List X) (k : ℕ) → All (λ x. times q (f x) ≡ times r (g x)) xs
     → places_from f k xs q ≡ places_from g k xs r

@@ -29,7 +29,7 @@ use Rattle.dl_net.specs.Numbers.{no_literal, mark_row, labelled, lowers_row, upp
 use Rattle.dl_net.specs.Above.{lower_step, upper_step}
 use Rattle.dl_net.specs.Named.{HasFacts, line_in}
 use Rattle.dl_names.specs.Paired.{Grows, number_in}
-use Rattle.dl_net.specs.Lines.{Line, IndexLists, KeepsRules}
+use Rattle.dl_rules.specs.Lines.{Line, IndexLists, KeepsRules}
 use Rattle.dl_net.specs.Edited.{HasEditLiterals}
 use Rattle.dl_net.specs.Room.{meets, HasPairRoom, HasEditRoom}
 use Rattle.dl_net.specs.KeptNet.{HasIndex, HasTables, numbered}

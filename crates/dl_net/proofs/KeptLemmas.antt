@@ -12,7 +12,7 @@ use Rattle.dl_net.specs.declared.net.Net.TheInside.{Inside}
 use Rattle.dl_net.specs.Numbers.{NetLists, IsNumbered}
 use Rattle.dl_net.specs.Staged.{StagedLists}
 use Rattle.dl_rows.specs.Listed.{Listed}
-use Rattle.dl_net.specs.Lines.{IndexLists}
+use Rattle.dl_rules.specs.Lines.{IndexLists}
 use Rattle.dl_net.specs.Above.{lower_step, upper_step}
 use Rattle.dl_names.specs.Paired.{IsPaired}
 use Rattle.dl_net.specs.Named.{HasLiterals, line_in}

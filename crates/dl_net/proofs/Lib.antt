@@ -1,12 +1,4 @@
 pub use Rattle.dl_names.proofs.NameLemmas
-pub mod PutLemmas
-pub mod OnceLemmas
-pub mod LineLemmas
-pub mod PlaceLemmas
-pub mod RuleLemmas
-pub mod LinkLemmas
-pub mod OrderLemmas
-pub mod TakeLemmas
 pub mod PairRules
 pub mod AboveLemmas
 pub mod JoinLemmas

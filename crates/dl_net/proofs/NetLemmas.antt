@@ -25,7 +25,7 @@ use Rattle.dl_net.specs.Numbers.{NetLists, IsNumbered, no_literal}
 use Rattle.dl_net.specs.Above.{lower_step, upper_step}
 use Rattle.dl_names.specs.Paired.{IsPaired, Grows, number_in}
 use Rattle.dl_net.specs.Named.{HasLiterals, HasFacts, line_in}
-use Rattle.dl_net.specs.Lines.{IndexLists}
+use Rattle.dl_rules.specs.Lines.{IndexLists}
 use Rattle.dl_net.specs.KeptNet.{HasTables}
 use Rattle.dl_net.specs.Edited.{HasEditLiterals}
 use Rattle.dl_names.proofs.NameLemmas.{paired_closed, complement_twice, number_at, number_within, Grows-keeps}

@@ -20,7 +20,7 @@ use Rattle.dl_theory.proofs.WellFormed.{edit_keeps}
 use Rattle.dl_net.specs.Numbers.{no_literal}
 use Rattle.dl_names.specs.Paired.{Grows, number_in}
 use Rattle.dl_net.specs.Named.{HasFacts, HasLiterals, line_in}
-use Rattle.dl_net.specs.Lines.{Line, IndexLists, no_index, KeepsRules, IsWithin}
+use Rattle.dl_rules.specs.Lines.{Line, IndexLists, no_index, KeepsRules, IsWithin}
 use Rattle.dl_net.specs.Linking.{lowers_by, uppers_by}
 use Rattle.dl_net.specs.KeptNet.{numbered, HasTables}
 use Rattle.dl_net.specs.FromNumbers.{bare_index, literal_in, rule_from, rules_from, theory_from, with_pairs, IsFromNumbers, IsLoading}

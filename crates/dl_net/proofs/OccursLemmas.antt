@@ -14,7 +14,8 @@ use Rattle.dl_rows.specs.Counting.{times, is_in}
 use Rattle.dl_rows.specs.Rows.{places_from, places}
 use Rattle.dl_net.specs.Numbers.{NetLists, IsNumbered, literal_at, number, body_row, is_fact}
 use Rattle.dl_net.specs.Named.{head_row}
-use Rattle.dl_net.proofs.PlaceLemmas.{one, times_single, times_once}
+use Rattle.dl_rules.proofs.PlaceLemmas.{one, times_single, times_once}
+use Rattle.dl_rules.proofs.OnceLemmas.{stands}
 use Rattle.dl_net.proofs.FindLemmas.{number_finds, head_named}
 
 module _ {X : Type 0} (f : X → List ℕ) (q : ℕ) where
@@ -44,11 +45,6 @@ module _ {X : Type 0} (f : X → List ℕ) (q : ℕ) where
       )
   row_some (y ∷ xs) k (suc i) x lt is h =
       omega (arith, length-append (replicate (times q (f y)) k) (places_from f (suc k) xs q), row_some xs (suc k) i x (omega (arith, lt)) is h)
-
--- whether a number stands in a list
--- a test tells whether a number stands in a list
-pub stands : (xs : List ℕ) (n : ℕ) → Decides (is_in xs n) (Contains xs n)
-stands xs n = is_member-Decides Decides-eqb xs n
 
 one_true : (b : Bool) → 0 < one b → b ≡ true
 one_true true h = refl

@@ -5,7 +5,7 @@ use Rattle.dl_theory.specs.declared.rule.Rule.{Rule}
 use Rattle.dl_theory.specs.declared.rule.Pair.{Pair}
 use Rattle.dl_theory.specs.Lists.{TheoryLists, IsWellFormed}
 use Rattle.dl_net.specs.Numbers.{no_literal}
-use Rattle.dl_net.specs.Lines.{Line, IndexLists, IsWithin}
+use Rattle.dl_rules.specs.Lines.{Line, IndexLists, IsWithin}
 use Rattle.dl_net.specs.KeptNet.{numbered, HasTables}
 
 -- the literal with a number

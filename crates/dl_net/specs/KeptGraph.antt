@@ -8,7 +8,7 @@ use Rattle.dl_net.specs.declared.graph.Source.TheVariants.{Staged, Kept}
 use Rattle.dl_net.specs.declared.graph.Graph.TheInside.{Inside}
 use Rattle.dl_net.specs.Numbers.{NetLists, IsNumbered}
 use Rattle.dl_names.specs.Paired.{IsPaired}
-use Rattle.dl_net.specs.Lines.{Line}
+use Rattle.dl_rules.specs.Lines.{Line}
 use Rattle.dl_net.specs.KeptNet.{HasTables, numbered}
 use Rattle.dl_net.specs.FromNumbers.{theory_from}
 use Rattle.dl_net.specs.GraphNames.{numbering}

@@ -5,7 +5,7 @@ use Rattle.dl_theory.specs.declared.edit.Edit.{Edit}
 use Rattle.dl_theory.specs.Lists.{TheoryLists, IsWellFormed}
 use Rattle.dl_net.specs.declared.net.Net.TheInside.{Inside}
 use Rattle.dl_net.specs.Numbers.{NetLists, IsNumbered, lowers_row, uppers_row}
-use Rattle.dl_net.specs.Lines.{IndexLists}
+use Rattle.dl_rules.specs.Lines.{IndexLists}
 use Rattle.dl_names.specs.Paired.{IsPaired}
 use Rattle.dl_net.specs.Named.{HasLiterals, HasFacts, line_in}
 use Rattle.dl_net.specs.Room.{HasPending}

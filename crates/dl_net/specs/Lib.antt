@@ -2,12 +2,7 @@ pub mod Numbers
 pub use Rattle.dl_rows.specs.Counting
 pub use Rattle.dl_rows.specs.Rows
 pub use Rattle.dl_rows.specs.Region
-pub mod Lines
 pub mod Linking
-pub mod KeptBody
-pub mod KeptLines
-pub mod Indexes
-pub mod KeptIndex
 pub mod Named
 pub mod Above
 pub mod Edited

@@ -9,7 +9,7 @@ use Rattle.dl_theory.specs.Lists.{TheoryLists, IsWellFormed, labels}
 use Rattle.dl_theory.specs.Pairs.{named, IsWithin}
 use Rattle.dl_net.specs.Above.{lower_step, upper_step}
 use Rattle.dl_net.specs.Named.{HasLiterals, line_in}
-use Rattle.dl_net.specs.Lines.{Line}
+use Rattle.dl_rules.specs.Lines.{Line}
 
 -- there are rules at both places of each pair
 abbrev pub HavePlaces : ℕ → RulePairs → Type 0

@@ -5,7 +5,7 @@ use Rattle.dl_lit.specs.declared.literal.Literal.{Literal}
 use Rattle.dl_lit.specs.Literal.{literal_eq}
 pub use Rattle.dl_names.specs.Paired.{IsPaired, IsNear, Grows, number_in}
 use Rattle.dl_theory.specs.declared.rule.Rule.{Rule}
-use Rattle.dl_net.specs.Lines.{Line, passes}
+use Rattle.dl_rules.specs.Lines.{Line, passes}
 use Rattle.dl_net.specs.Numbers.{NetLists, no_literal, number}
 
 -- the literals of a rule

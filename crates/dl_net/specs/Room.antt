@@ -8,7 +8,7 @@ use Rattle.dl_theory.specs.Lists.{TheoryLists, labels}
 use Rattle.dl_theory.specs.Edits.{IsAccepted}
 use Rattle.dl_names.specs.Paired.{flip, number_in}
 use Rattle.dl_net.specs.Named.{HasLiterals, line_in}
-use Rattle.dl_net.specs.Lines.{Line, IndexLists, no_line}
+use Rattle.dl_rules.specs.Lines.{Line, IndexLists, no_line}
 use Rattle.dl_net.specs.Numbers.{NetLists}
 
 -- whether the head of the rule at one place is attacked by that of the rule at another

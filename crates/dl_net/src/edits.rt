@@ -5,7 +5,6 @@ ghost use Rattle.dl_theory.specs.Edits.{IsAccepted, IsStopped, after_edit};
 ghost use Rattle.dl_net.specs.Edited.{edit_literals};
 ghost use Rattle.dl_names.specs.Paired.{IsNear, Grows};
 
-use crate::index::Index;
 use crate::load::index_of;
 use crate::net::Net;
 use crate::number::mark_facts;
@@ -13,6 +12,7 @@ use crate::ready::Ready;
 use crate::room::take_room;
 use crate::tables::change_tables;
 use dl_base::Memory;
+use dl_rules::Index;
 use dl_theory::{Edit, EditStop};
 
 impl Net {

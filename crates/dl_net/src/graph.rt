@@ -6,11 +6,11 @@ ghost use Rattle.dl_lit.specs.Literal.{literal_eq};
 ghost use Rattle.dl_theory.specs.Lists.{IsWellFormed};
 
 use crate::graph_names::GraphNames;
-use crate::index::Index;
-use crate::load::other;
 use crate::staged::Staged;
 use dl_lit::{Literal, LiteralRef, Name, NameSet};
+use dl_names::other;
 use dl_rows::Table;
+use dl_rules::Index;
 use dl_theory::RulePairs;
 use std::marker::Model;
 

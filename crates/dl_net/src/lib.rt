@@ -7,17 +7,11 @@
 //! Begin with `specs/Numbers.antt`, which says it in words of the logic, and with `graph.rt`.
 #![tactic(auto)]
 
-mod body;
-mod counts;
 mod edits;
-mod entry;
 mod graph;
 mod graph_names;
-mod index;
 mod labels;
-mod lines;
 mod link;
-mod link_counts;
 mod links;
 mod load;
 mod net;
@@ -25,14 +19,11 @@ mod net_readers;
 mod number;
 mod numbered;
 mod numbered_net;
-mod put;
 mod readers;
 mod ready;
 mod room;
-mod rule_lists;
 mod staged;
 mod tables;
-mod take;
 
 pub use dl_rows::Region;
 pub use graph::Graph;

@@ -1,6 +1,6 @@
 //! The index of a whole theory: its rules by the numbers of their literals, and which of them stand below and above others.
 
-ghost use Rattle.std.specs.Prelude.{◌≡◌, ◌<◌, ◌^◌, ◌+◌, ◌==◌, ◌∷◌, ◌++◌, ℕ, List, [], Some, IfOk, OnOk, OnErr, All, Contains, length, map, get_or, slice_get};
+ghost use Rattle.std.specs.Prelude.{◌≡◌, ◌<◌, ◌+◌, ◌==◌, ◌∷◌, ◌++◌, ℕ, List, [], Some, IfOk, OnOk, OnErr, All, Contains, length, map, get_or, slice_get};
 ghost use Rattle.dl_base.specs.Paths.{IsDistinct};
 ghost use Rattle.dl_theory.specs.declared.rule.Rule.{Rule};
 ghost use Rattle.dl_theory.specs.Lists.{TheoryLists};
@@ -10,31 +10,16 @@ ghost use Rattle.dl_names.specs.Paired.{flip, IsPaired, IsNear, Grows};
 ghost use Rattle.dl_net.specs.Above.{lower_step, upper_step};
 ghost use Rattle.dl_net.specs.Named.{HasLiterals, line_in};
 ghost use Rattle.dl_net.specs.Numbers.{no_rule};
-ghost use Rattle.dl_net.specs.Lines.{KeepsRules, IsWithin, no_line};
+ghost use Rattle.dl_rules.specs.Lines.{KeepsRules, IsWithin, no_line};
 ghost use Rattle.std.specs.List.{flat_map};
 
-use crate::index::Index;
-use crate::lines::Lines;
-use crate::link_counts::LinkCounts;
 use crate::number::number_rule;
-use crate::rule_lists::BLOCK;
 use dl_base::Memory;
-use dl_names::{PairSet, PairedNames, WholePairs};
+use dl_names::{PairSet, PairedNames, WholePairs, other};
 use dl_rows::Region;
+use dl_rules::{BLOCK, Index, Lines, LinkCounts};
 use dl_theory::{Rule, RulePairs, Theory};
 use std::alloc::Global;
-
-/// The number of the complement: literals stand beside their complements.
-pub(crate) fn other(number: usize) -> usize
-    requires { number < 2 ^ 63 }
-    ensures { result ≡ flip number }
-{
-    if number % 2 == 0 {
-        number + 1
-    } else {
-        number - 1
-    }
-}
 
 /// The index of a whole theory, whose rules' literals get numbers beside their complements where they have none. No inner number
 /// is empty.

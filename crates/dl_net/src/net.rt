@@ -12,7 +12,6 @@ ghost use Rattle.dl_theory.specs.Listings.{Mentions};
 
 use crate::graph::{Graph, Source};
 use crate::graph_names::GraphNames;
-use crate::index::Index;
 use crate::link::Link;
 use crate::load::index_of;
 use crate::number::mark_facts;
@@ -21,6 +20,7 @@ use dl_base::Memory;
 use dl_lit::Literal;
 use dl_names::{PairedNames, WholePairs};
 use dl_rows::Table;
+use dl_rules::Index;
 use dl_theory::{Pair, Rule, Theory};
 use std::alloc::Global;
 use std::marker::Model;

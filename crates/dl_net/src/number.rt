@@ -6,14 +6,13 @@ ghost use Rattle.dl_lit.specs.declared.literal.Literal.{Literal};
 ghost use Rattle.dl_names.specs.Paired.{IsPaired, IsNear, Grows, number_in};
 ghost use Rattle.dl_net.specs.Named.{HasLiterals, line_in, HasFacts};
 ghost use Rattle.dl_rows.specs.Counting.{each_once};
-ghost use Rattle.dl_net.specs.Lines.{once_or};
+ghost use Rattle.dl_rules.specs.Lines.{once_or};
 
-use crate::body::BodyNumbers;
-use crate::entry::Entry;
 use dl_base::Memory;
 use dl_lit::Literal;
 use dl_names::{PairSet, PairedNames, WholePairs};
 use dl_rows::{Region, Row, Table};
+use dl_rules::{BodyNumbers, Entry};
 use dl_theory::{Kind, Rule};
 use std::alloc::Global;
 

@@ -9,13 +9,13 @@ ghost use Rattle.dl_theory.specs.Edits.{HasLabel, IsAccepted, IsStopped, after_e
 ghost use Rattle.dl_net.specs.Named.{HasFacts};
 
 use crate::labels::keep_first;
-use crate::lines::Lines;
 use crate::load::load_rule;
 use crate::number::number_fact;
 use dl_base::Memory;
 use dl_lit::{Literal, Name, NameSet, name_set};
 use dl_names::{AtomPairs, PairedNames};
 use dl_rows::{Region, Table};
+use dl_rules::Lines;
 use dl_theory::{
     Body, EditRefusal, EditStop, LIMIT, Loading, Pair, PairsStop, Rule, RulePairs, holds_label,
     insert_label,

@@ -4,14 +4,13 @@ ghost use Rattle.std.specs.Prelude.{◌≡◌, IfOk};
 
 use crate::graph::{Graph, Kept, Source};
 use crate::graph_names::GraphNames;
-use crate::index::Index;
-use crate::link_counts::LinkCounts;
 use crate::load::load_pairs;
 use crate::numbered::NumberedTheory;
 use dl_base::Memory;
 use dl_lit::{Name, NameSet};
 use dl_names::{AtomPairs, PairedNames};
 use dl_rows::Table;
+use dl_rules::{Index, LinkCounts};
 use dl_theory::RulePairs;
 use std::marker::Model;
 

@@ -7,11 +7,10 @@ ghost use Rattle.dl_theory.specs.Edits.{IsAccepted, HasBoth};
 ghost use Rattle.dl_net.specs.Edited.{edit_literals};
 ghost use Rattle.dl_net.specs.Room.{HasEditRoom, HasPairRoom};
 ghost use Rattle.dl_net.specs.KeptNet.{HasTables, numbered};
-ghost use Rattle.dl_net.specs.Lines.{KeepsRules};
+ghost use Rattle.dl_rules.specs.Lines.{KeepsRules};
 ghost use Rattle.dl_names.specs.Paired.{IsPaired, IsNear, Grows};
 ghost use Rattle.dl_net.specs.Named.{HasFacts, HasLiterals, line_in};
 
-use crate::index::Index;
 use crate::load::{meet, room_for_rule};
 use crate::number::number_fact;
 use crate::staged::Staged;
@@ -19,6 +18,7 @@ use dl_base::Memory;
 use dl_lit::Literal;
 use dl_names::{PairedNames, WholePairs};
 use dl_rows::Table;
+use dl_rules::Index;
 use dl_theory::{Edit, Pair};
 use std::alloc::Global;
 

@@ -9,12 +9,12 @@ ghost use Rattle.dl_net.specs.KeptNet.{HasIndex, HasTables, numbered};
 ghost use Rattle.dl_names.specs.Paired.{IsPaired, number_in};
 ghost use Rattle.dl_net.specs.Named.{HasFacts, HasLiterals, line_in};
 
-use crate::index::Index;
 use crate::load::meet;
 use crate::staged::Staged;
 use dl_lit::{Literal, Name};
 use dl_names::{PairedNames, WholePairs};
 use dl_rows::Table;
+use dl_rules::Index;
 use dl_theory::{Edit, Pair, Rule};
 
 /// Makes an edit for which there is room.

@@ -7,7 +7,7 @@ use Rattle.dl_lit.specs.declared.literal.Literal.{Literal}
 use Rattle.dl_theory.specs.declared.rule.Rule.{Rule}
 use Rattle.dl_theory.specs.Lists.{TheoryLists, labels}
 use Rattle.dl_net.specs.Named.{HasLiterals, line_in}
-use Rattle.dl_net.specs.Lines.{Line, IsWithin as IsInside}
+use Rattle.dl_rules.specs.Lines.{Line, IsWithin as IsInside}
 use Rattle.dl_net.specs.Linking.{AreRules}
 use Rattle.dl_net.proofs.AboveLemmas.{line_within}
 use Rattle.dl_net.proofs.PairRules.{have_places}

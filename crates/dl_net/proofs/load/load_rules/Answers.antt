@@ -7,7 +7,7 @@ use Rattle.dl_lit.specs.Names.{Numbering}
 use Rattle.dl_theory.specs.declared.rule.Rule.{Rule}
 use Rattle.dl_names.specs.Paired.{IsNear, Grows}
 use Rattle.dl_net.specs.Named.{HasLiterals, line_in}
-use Rattle.dl_net.specs.Lines.{Line}
+use Rattle.dl_rules.specs.Lines.{Line}
 use Rattle.dl_names.proofs.NameLemmas.{Grows-none, Grows-trans, Grows-weaker}
 use Rattle.dl_net.proofs.NetLemmas.{rules_grown, lines_kept}
 use Rattle.dl_net.proofs.load.load_rules.Goals as goal

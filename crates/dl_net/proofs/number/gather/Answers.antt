@@ -3,8 +3,7 @@ use Rattle.std.specs.Prelude.{Contains}
 use Rattle.std.proofs.lemmas.Bool.{false≢true}
 use Rattle.std.proofs.lemmas.List.{take_more}
 use Rattle.dl_rows.specs.Counting.{each_once, is_in}
-use Rattle.dl_net.proofs.OccursLemmas.{stands}
-use Rattle.dl_net.proofs.OnceLemmas.{each_once-inserted}
+use Rattle.dl_rules.proofs.OnceLemmas.{stands, each_once-inserted}
 use Rattle.dl_net.proofs.number.gather.Goals as goal
 
 -- one number more goes last, unless it was there

@@ -1,5 +1,5 @@
 use Rattle.std.proofs.Common.{length, sym, ap, arith}
-use Rattle.dl_net.proofs.OnceLemmas.{each_once_full}
+use Rattle.dl_rules.proofs.OnceLemmas.{each_once_full}
 use Rattle.dl_net.proofs.number.once_among.Goals as goal
 
 pub returns-then-len-numbers : goal.returns-then-len-numbers

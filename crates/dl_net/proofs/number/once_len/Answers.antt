@@ -1,7 +1,7 @@
 use Rattle.std.proofs.Common.{◌≡◌, ℕ, ◌+◌, ◌++◌, ◌∷◌, [], List, length, take, get_or, sym, ap, ◌∙◌, arith}
 use Rattle.std.proofs.lemmas.List.{take_more, length-take-le}
 use Rattle.dl_rows.specs.Counting.{each_once, is_in}
-use Rattle.dl_net.proofs.OnceLemmas.{each_once-push_new, each_once-push_old, each_once_shorter, is_in-turned}
+use Rattle.dl_rules.proofs.OnceLemmas.{each_once-push_new, each_once-push_old, each_once_shorter, is_in-turned}
 use Rattle.dl_net.proofs.number.once_len.Goals as goal
 use Rattle.dl_net.proofs.number.once_len.Goals.{then-not-contains, else-not-contains}
 

@@ -11,7 +11,7 @@ use Rattle.dl_net.specs.Room.{HasEditRoom, HasPairRoom}
 use Rattle.dl_names.specs.Paired.{IsNear, Grows}
 use Rattle.dl_net.specs.Named.{HasFacts, HasLiterals, line_in}
 use Rattle.dl_rows.specs.Listed.{Listed}
-use Rattle.dl_net.specs.Lines.{IndexLists, KeepsRules}
+use Rattle.dl_rules.specs.Lines.{IndexLists, KeepsRules}
 use Rattle.dl_names.proofs.NameLemmas.{Grows-none, number_within}
 use Rattle.dl_net.proofs.JoinLemmas.{ok_both, tables_roomed, same_rules}
 use Rattle.dl_net.proofs.room.take_room.Goals.{in-AddRule, in-AddFact, in-AddPair, in-DropRule, in-DropFact, in-DropPair}

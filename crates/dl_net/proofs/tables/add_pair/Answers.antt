@@ -4,7 +4,7 @@ use Rattle.dl_lit.specs.declared.literal.Literal.{Literal}
 use Rattle.dl_theory.specs.Lists.{TheoryLists}
 use Rattle.dl_net.specs.Numbers.{lowers_row, uppers_row}
 use Rattle.dl_net.specs.KeptNet.{numbered}
-use Rattle.dl_net.specs.Lines.{Meeting, IndexLists}
+use Rattle.dl_rules.specs.Lines.{Meeting, IndexLists}
 use Rattle.dl_rows.specs.Tables.{list_of}
 use Rattle.dl_net.proofs.AboveLemmas.{head_within, lowers_none, lowers_joined, uppers_none, uppers_joined}
 use Rattle.dl_net.proofs.JoinLemmas.{index_linked}

@@ -1,6 +1,6 @@
 use Rattle.std.proofs.Common.{Option, ◌++◌, ap, ◌∙◌}
 use Rattle.std.specs.Prelude.{option_to_list}
-use Rattle.dl_net.specs.Lines.{Line}
+use Rattle.dl_rules.specs.Lines.{Line}
 use Rattle.dl_net.proofs.JoinLemmas.{index_joined}
 use Rattle.dl_net.proofs.tables.add_rule.Goals as goal
 

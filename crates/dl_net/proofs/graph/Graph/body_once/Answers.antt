@@ -4,10 +4,10 @@ use Rattle.dl_lit.specs.declared.literal.Literal.{Literal}
 use Rattle.dl_rows.specs.Rows.{row}
 use Rattle.dl_net.specs.Numbers.{NetLists, body_row}
 use Rattle.dl_net.specs.Named.{line_in}
-use Rattle.dl_net.specs.Lines.{Line, uses_row}
+use Rattle.dl_rules.specs.Lines.{Line, uses_row}
 use Rattle.dl_net.specs.GraphNames.{numbering}
 use Rattle.dl_net.specs.KeptGraph.{theory_of}
-use Rattle.dl_net.proofs.RowLemmas.{row-map}
+use Rattle.dl_rows.proofs.RowLemmas.{row-map}
 use Rattle.dl_net.proofs.graph.Graph.body_once.Goals as goal
 
 pub returns : goal.returns

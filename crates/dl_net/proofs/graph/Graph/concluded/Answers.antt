@@ -4,10 +4,10 @@ use Rattle.dl_lit.specs.declared.literal.Literal.{Literal}
 use Rattle.dl_rows.specs.Rows.{row}
 use Rattle.dl_net.specs.Numbers.{NetLists}
 use Rattle.dl_net.specs.Named.{concluded_row, line_in}
-use Rattle.dl_net.specs.Lines.{Line, kind_row}
+use Rattle.dl_rules.specs.Lines.{Line, kind_row}
 use Rattle.dl_net.specs.GraphNames.{numbering}
 use Rattle.dl_net.specs.KeptGraph.{theory_of}
-use Rattle.dl_net.proofs.RowLemmas.{row-map}
+use Rattle.dl_rows.proofs.RowLemmas.{row-map}
 use Rattle.dl_net.proofs.graph.Graph.concluded.Goals as goal
 
 pub returns : goal.returns

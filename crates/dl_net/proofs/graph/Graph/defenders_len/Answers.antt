@@ -2,15 +2,14 @@ use Rattle.std.proofs.Common.{◌≡◌, ℕ, Bool, true, List, length, map, get
 use Rattle.std.specs.Prelude.{filter}
 use Rattle.std.proofs.lemmas.Bool.{cases_lt}
 use Rattle.std.proofs.lemmas.List.{get_or-map}
-use Rattle.dl_theory.specs.Lists.{can_support}
+use Rattle.dl_theory.specs.Lists.{can_support, IsWellFormed}
 use Rattle.dl_rows.specs.Rows.{row}
 use Rattle.dl_net.specs.Numbers.{NetLists, no_rule, uppers_row}
 use Rattle.dl_net.specs.Named.{line_in}
-use Rattle.dl_net.specs.Lines.{Line, no_line}
+use Rattle.dl_rules.specs.Lines.{Line, no_line}
 use Rattle.dl_rows.specs.Tables.{list_of}
 use Rattle.dl_net.specs.KeptGraph.{graph_of}
-use Rattle.dl_net.proofs.RowLemmas.{row_in, row_past, get_or-rows}
-use Rattle.dl_theory.specs.Lists.{IsWellFormed}
+use Rattle.dl_rows.proofs.RowLemmas.{row_in, row_past, get_or-rows}
 use Rattle.dl_net.proofs.UpperLemmas.{uppers_short, uppers_filtered}
 use Rattle.dl_net.proofs.graph.Graph.defenders_len.Goals as goal
 

@@ -4,10 +4,10 @@ use Rattle.dl_lit.specs.declared.literal.Literal.{Literal}
 use Rattle.dl_rows.specs.Rows.{places}
 use Rattle.dl_net.specs.Numbers.{NetLists}
 use Rattle.dl_net.specs.Named.{head_row, line_in}
-use Rattle.dl_net.specs.Lines.{Line, heads_row}
+use Rattle.dl_rules.specs.Lines.{Line, heads_row}
 use Rattle.dl_net.specs.GraphNames.{numbering}
 use Rattle.dl_net.specs.KeptGraph.{theory_of}
-use Rattle.dl_net.proofs.PlaceLemmas.{places-map}
+use Rattle.dl_rules.proofs.PlaceLemmas.{places-map}
 use Rattle.dl_net.proofs.graph.Graph.heads_len.Goals as goal
 
 pub returns-clause-value : goal.returns-clause-value

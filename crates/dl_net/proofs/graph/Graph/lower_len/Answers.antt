@@ -3,7 +3,7 @@ use Rattle.dl_rows.specs.Rows.{row}
 use Rattle.dl_net.specs.Numbers.{NetLists, lowers_row}
 use Rattle.dl_rows.specs.Tables.{list_of}
 use Rattle.dl_net.specs.KeptGraph.{theory_of, graph_of}
-use Rattle.dl_net.proofs.RowLemmas.{get_or-rows}
+use Rattle.dl_rows.proofs.RowLemmas.{get_or-rows}
 use Rattle.dl_net.proofs.graph.Graph.lower_len.Goals as goal
 
 pub returns : goal.returns

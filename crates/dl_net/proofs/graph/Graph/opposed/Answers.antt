@@ -2,7 +2,7 @@ use Rattle.std.proofs.Common.{◌<◌, [], ◌∷◌, length, get_or, sym, ap, �
 use Rattle.dl_lit.specs.Literal.{complement}
 use Rattle.dl_theory.specs.declared.rule.Rule.{Rule}
 use Rattle.dl_net.specs.Numbers.{NetLists, no_rule, number, literal_at, opposes_row}
-use Rattle.dl_net.proofs.RowLemmas.{row_past, row_in}
+use Rattle.dl_rows.proofs.RowLemmas.{row_past, row_in}
 use Rattle.dl_net.proofs.FindLemmas.{number_finds, head_named}
 use Rattle.dl_net.proofs.graph.Graph.opposed.Goals as goal
 

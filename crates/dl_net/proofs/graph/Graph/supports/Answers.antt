@@ -7,7 +7,7 @@ use Rattle.dl_theory.specs.declared.rule.Rule.{Rule}
 use Rattle.dl_theory.specs.Lists.{can_support}
 use Rattle.dl_net.specs.Numbers.{NetLists, no_rule, rule_at}
 use Rattle.dl_net.specs.Named.{line_in}
-use Rattle.dl_net.specs.Lines.{Line, no_line}
+use Rattle.dl_rules.specs.Lines.{Line, no_line}
 use Rattle.dl_net.specs.GraphNames.{numbering}
 use Rattle.dl_net.specs.KeptGraph.{theory_of}
 use Rattle.dl_net.proofs.graph.Graph.supports.Goals as goal

@@ -4,7 +4,7 @@ use Rattle.dl_rows.specs.Rows.{row}
 use Rattle.dl_net.specs.Numbers.{NetLists, no_rule, uppers_row}
 use Rattle.dl_rows.specs.Tables.{list_of}
 use Rattle.dl_net.specs.KeptGraph.{theory_of, graph_of}
-use Rattle.dl_net.proofs.RowLemmas.{row_in, row_past, get_or-rows}
+use Rattle.dl_rows.proofs.RowLemmas.{row_in, row_past, get_or-rows}
 use Rattle.dl_net.proofs.UpperLemmas.{uppers_short}
 use Rattle.dl_net.proofs.graph.Graph.upper_len.Goals as goal
 

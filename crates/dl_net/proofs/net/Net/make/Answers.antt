@@ -5,7 +5,7 @@ use Rattle.std.proofs.lemmas.List.Elements.{All-nil}
 use Rattle.dl_lit.specs.Names.{Numbering}
 use Rattle.dl_theory.specs.Lists.{TheoryLists}
 use Rattle.dl_net.specs.Above.{lower_step, upper_step}
-use Rattle.dl_net.specs.Lines.{IndexLists}
+use Rattle.dl_rules.specs.Lines.{IndexLists}
 use Rattle.dl_names.specs.Paired.{IsPaired}
 use Rattle.dl_net.specs.Named.{HasLiterals, line_in}
 use Rattle.dl_net.proofs.net.Net.make.Goals as goal

@@ -4,7 +4,7 @@ use Rattle.dl_lit.specs.Names.{Numbering}
 use Rattle.dl_theory.specs.Lists.{TheoryLists}
 use Rattle.dl_net.specs.Above.{lower_step, upper_step}
 use Rattle.dl_net.specs.Named.{HasLiterals, line_in}
-use Rattle.dl_net.specs.Lines.{IndexLists}
+use Rattle.dl_rules.specs.Lines.{IndexLists}
 use Rattle.dl_net.specs.Numbers.{NetLists}
 use Rattle.dl_net.specs.KeptNet.{IsKeptNet}
 use Rattle.dl_net.proofs.KeptLemmas.{kept_same, kept_anew}

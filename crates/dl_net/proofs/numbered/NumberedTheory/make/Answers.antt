@@ -4,7 +4,7 @@ use Rattle.std.proofs.lemmas.List.Elements.{All-nil}
 use Rattle.dl_lit.specs.Names.{Numbering}
 use Rattle.dl_theory.specs.declared.rule_pairs.RulePairs.{RulePairs}
 use Rattle.dl_theory.specs.Pairs.{named, IsWithin}
-use Rattle.dl_net.specs.Lines.{Line}
+use Rattle.dl_rules.specs.Lines.{Line}
 use Rattle.dl_net.specs.FromNumbers.{bare_index, IsLoading}
 use Rattle.dl_net.proofs.NumberedLemmas.{none_loading}
 use Rattle.dl_net.proofs.numbered.NumberedTheory.make.Goals as goal

@@ -8,7 +8,7 @@ use Rattle.dl_theory.specs.Lists.{TheoryLists}
 use Rattle.dl_theory.specs.Edits.{IsAccepted, after_edit}
 use Rattle.dl_net.specs.Numbers.{NetLists}
 use Rattle.dl_names.specs.Paired.{IsNear}
-use Rattle.dl_net.specs.Lines.{IndexLists}
+use Rattle.dl_rules.specs.Lines.{IndexLists}
 use Rattle.dl_net.specs.FromNumbers.{bare_index, literal_in, theory_from, IsLoading}
 use Rattle.dl_net.specs.KeptNumbered.{lists_of, pairs_of}
 use Rattle.dl_names.proofs.NameLemmas.{number_within}

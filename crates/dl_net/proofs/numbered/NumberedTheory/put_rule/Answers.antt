@@ -12,7 +12,7 @@ use Rattle.dl_theory.specs.Pairs.{named, IsWithin}
 use Rattle.dl_theory.specs.Edits.{IsAccepted, after_edit}
 use Rattle.dl_net.specs.Numbers.{NetLists}
 use Rattle.dl_names.specs.Paired.{IsNear}
-use Rattle.dl_net.specs.Lines.{IndexLists}
+use Rattle.dl_rules.specs.Lines.{IndexLists}
 use Rattle.dl_net.specs.FromNumbers.{bare_index, theory_from, IsLoading}
 use Rattle.dl_net.specs.KeptNumbered.{lists_of, pairs_of}
 use Rattle.dl_net.proofs.PairRules.{pairs_kept, pairs_within}

@@ -3,7 +3,7 @@ use Rattle.std.specs.Prelude.{All}
 use Rattle.dl_theory.specs.Lists.{labels}
 use Rattle.dl_theory.specs.Pairs.{named, IsWithin as IsPairWithin}
 use Rattle.dl_net.specs.declared.numbered.NumberedTheory.TheInside.{Inside}
-use Rattle.dl_net.specs.Lines.{Line, IsWithin, IndexLists}
+use Rattle.dl_rules.specs.Lines.{Line, IsWithin, IndexLists}
 use Rattle.dl_net.specs.Linking.{AreRules, ArePairs}
 use Rattle.dl_net.specs.KeptNet.{numbered}
 use Rattle.dl_net.specs.FromNumbers.{theory_from, bare_index}
