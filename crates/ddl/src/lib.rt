@@ -10,14 +10,14 @@ mod check;
 mod conclusion;
 mod law;
 mod print;
+mod program;
 mod refusal;
 mod reply;
-mod run;
 mod status;
 mod theory_file;
 mod whole;
 mod words;
 
 pub use law::statuses_are_exact;
-pub use run::run;
+pub use program::run;
 pub use status::Status;

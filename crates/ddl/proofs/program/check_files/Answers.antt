@@ -8,7 +8,7 @@ use Rattle.ddl.specs.Theories.{IsLoaded}
 use Rattle.ddl.specs.Words.{Check}
 use Rattle.ddl.specs.Run.{refused}
 use Rattle.ddl.proofs.Certifying.{certificate_shown, fault_after, reads_first}
-use Rattle.ddl.proofs.run.check_files.Goals as goal
+use Rattle.ddl.proofs.program.check_files.Goals as goal
 
 pub returns-in_err-reply-in-Theory-clause-cause : goal.returns-in_err-reply-in-Theory-clause-cause
 returns-in_err-reply-in-Theory-clause-cause g c =

@@ -4,7 +4,7 @@ use Rattle.ddl.specs.declared.theory_file.Loaded.{Loaded}
 use Rattle.ddl.specs.Theories.{IsLoaded}
 use Rattle.ddl.specs.Words.{Conclude}
 use Rattle.ddl.specs.Run.{concluded, refused}
-use Rattle.ddl.proofs.run.conclude.Goals as goal
+use Rattle.ddl.proofs.program.conclude.Goals as goal
 
 pub returns-in_ok-concluded-in-Theory-clause-shown : goal.returns-in_ok-concluded-in-Theory-clause-shown
 returns-in_ok-concluded-in-Theory-clause-shown c = λ holds file gives.

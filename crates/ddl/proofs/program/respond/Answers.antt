@@ -5,7 +5,7 @@ use Rattle.dl_io.specs.Outside.{Rose, raised, at_name}
 use Rattle.dl_io.specs.House.{standard}
 use Rattle.ddl.specs.Run.{outcome_of}
 use Rattle.ddl.proofs.Handing.{handed_front}
-use Rattle.ddl.proofs.run.respond.Goals as goal
+use Rattle.ddl.proofs.program.respond.Goals as goal
 
 -- a count that rose from nothing raises another
 rose_by : (before now count : ℕ) → now ≡ before → Rose 0 count → Rose before (raised now count)

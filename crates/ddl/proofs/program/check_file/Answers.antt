@@ -1,7 +1,7 @@
 use Rattle.std.proofs.Common.{string_bytes}
 use Rattle.ddl.specs.Certified.{SaysOfCertificate}
 use Rattle.ddl.proofs.Loading.{holds_so}
-use Rattle.ddl.proofs.run.check_file.Goals as goal
+use Rattle.ddl.proofs.program.check_file.Goals as goal
 
 pub returns-clause-said : goal.returns-clause-said
 returns-clause-said g c = λ told.

@@ -4,7 +4,7 @@ use Rattle.ddl.specs.declared.theory_file.Loaded.{Loaded}
 use Rattle.ddl.specs.Theories.{IsLoaded}
 use Rattle.ddl.specs.Words.{Print}
 use Rattle.ddl.specs.Run.{printed, refused}
-use Rattle.ddl.proofs.run.print_of.Goals as goal
+use Rattle.ddl.proofs.program.print_of.Goals as goal
 
 pub returns-in-Theory-clause-shown : goal.returns-in-Theory-clause-shown
 returns-in-Theory-clause-shown c = λ holds file gives.

@@ -2,7 +2,7 @@ use Rattle.std.proofs.Common.{Option, subst}
 use Rattle.ddl.specs.declared.reply.Reply.TheVariants as reply
 use Rattle.ddl.specs.Words.{Form}
 use Rattle.ddl.specs.Run.{Shows, usage, outcome_of}
-use Rattle.ddl.proofs.run.reply_to.Goals as goal
+use Rattle.ddl.proofs.program.reply_to.Goals as goal
 
 pub returns-in-None-clause-shown : goal.returns-in-None-clause-shown
 returns-in-None-clause-shown g c = λ told.
