@@ -1,6 +1,6 @@
 //! What the program answers on words and a theory.
 
-use crate::houses::{Asked, expect, file};
+use crate::houses::{Asked, expect, faultless};
 use ddl::Status;
 use std::alloc::Global;
 use std::process::Abort;
@@ -34,8 +34,8 @@ fn expect_row<R: Threads + Wait + Sync + Abort>(
 ) -> Result<(), Fail> {
     let asked = Asked {
         words: row.words,
-        one: file("t", row.theory),
-        other: file("-", b""),
+        one: faultless("t", row.theory),
+        other: faultless("-", b""),
     };
     expect(rt, alloc, asked, row.status, row.text)
 }

@@ -1,6 +1,6 @@
 //! Certificates that are checked.
 
-use crate::houses::{Asked, expect, file};
+use crate::houses::{Asked, expect, faultless};
 use ddl::Status;
 use std::alloc::Global;
 use std::process::Abort;
@@ -71,8 +71,8 @@ fn expect_row<R: Threads + Wait + Sync + Abort>(
     let (theory, certificate, status, text) = *row;
     let asked = Asked {
         words: &["check", "t", "c"],
-        one: file("t", theory),
-        other: file("c", certificate),
+        one: faultless("t", theory),
+        other: faultless("c", certificate),
     };
     expect(rt, alloc, asked, status, text)
 }

@@ -21,7 +21,7 @@ pub(crate) struct File<'a> {
 }
 
 /// A file of which no read and no write fails.
-pub(crate) fn file<'a>(name: &'a str, bytes: &'a [u8]) -> File<'a> {
+pub(crate) fn faultless<'a>(name: &'a str, bytes: &'a [u8]) -> File<'a> {
     File {
         name,
         bytes,
