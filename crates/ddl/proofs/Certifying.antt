@@ -1,28 +1,21 @@
 -- From a certificate's bytes to what the words ask for, over two files.
-use Rattle.std.proofs.Common.{◌≡◌, ◌∙◌, inl, inr, ℕ, List, [], ◌∷◌, ◌++◌, Option, Some, refl, ap, subst, append_assoc}
+use Rattle.std.proofs.Common.{◌≡◌, ◌∙◌, ◌⊎◌, ◌+◌, inl, inr, ℕ, List, [], ◌∷◌, ◌++◌, Option, Some, sym, ap, subst, append_assoc}
 use Rattle.std.specs.Prelude.{Result}
 use Rattle.dl_io.specs.House.{HouseState}
 use Rattle.dl_theory.specs.Lists.{TheoryLists}
 use Rattle.ddl.specs.declared.refusal.Refusal.TheVariants.{Size, Form, Variables, Edit}
-use Rattle.ddl.specs.declared.check.Checked.{Checked}
-use Rattle.ddl.specs.declared.check.Checked.TheVariants.{Accepted, Rejected}
 use Rattle.ddl.specs.declared.reply.Reply.{Reply}
 use Rattle.ddl.specs.declared.reply.Reply.TheVariants as reply
-use Rattle.ddl.specs.Theories.{IsTheoryFile}
+use Rattle.ddl.specs.Theories.{limit, IsTheoryFile}
 use Rattle.ddl.specs.Certified.{SaysOfCertificate}
-use Rattle.ddl.specs.Replies.{reply_status}
 use Rattle.ddl.specs.declared.whole.Stop.{Stop}
-use Rattle.ddl.specs.Whole.{HasFault}
+use Rattle.ddl.specs.Whole.{HasFault, TakesAtMost}
 use Rattle.ddl.specs.Words.{Check}
-use Rattle.ddl.specs.Run.{ReadsOnly, Shows, MayEnd, too_large, checked, outcome_of}
-
-pub checked_ends : (x : Checked) → MayEnd (Some (Check [] [])) (reply_status (reply.Checked x))
-checked_ends Accepted = inl refl
-checked_ends (Rejected line) = inr (inr refl)
+use Rattle.ddl.specs.Run.{ReadsOnly, ReadsWithin, Shows, too_large, checked, outcome_of}
 
 module _ (holds : List ℕ → Option (List ℕ)) (file cert bytes more : List ℕ) (T : TheoryLists) (held : holds file ≡ Some bytes) (loads : IsTheoryFile bytes T)
     (kept : holds cert ≡ Some more) where
-  pub certificate_shown : (r : Reply) → SaysOfCertificate T more r → Shows holds (Some (Check file cert)) (outcome_of r)
+  pub certificate_shown : (r : Reply) → SaysOfCertificate T more r → Shows holds (Some (Check file cert)) (file ∷ cert ∷ []) (outcome_of r)
   certificate_shown reply.Usage h = absurd h
   certificate_shown (reply.Refused Size) h = too_large file cert bytes more T held loads kept h
   certificate_shown (reply.Refused (Form line)) h = absurd h
@@ -32,10 +25,21 @@ module _ (holds : List ℕ → Option (List ℕ)) (file cert bytes more : List �
   certificate_shown (reply.Text U) h = absurd h
   certificate_shown (reply.Checked x) h = checked file cert bytes more T x held loads kept h.0 h.1
 
+-- some was read, and then more
+within_then : (old mid new : HouseState) → mid.holds ≡ old.holds → ReadsWithin old mid → ReadsWithin mid new → ReadsWithin old new
+within_then old mid new same before after = λ name. elim (after name) as (λ _. (new.left name ≡ old.left name) ⊎ TakesAtMost (limit + 1) (old.holds name) (new.left name)) [
+  | inl kept ↦ elim (before name) as (λ _. (new.left name ≡ old.left name) ⊎ TakesAtMost (limit + 1) (old.holds name) (new.left name)) [
+    | inl first ↦ inl (kept ∙ first)
+    | inr takes ↦ inr (subst (λ (rest : Option (List ℕ)). TakesAtMost (limit + 1) (old.holds name) rest) (sym kept) takes)
+  ]
+  | inr takes ↦ inr (subst (λ (holds : List ℕ → Option (List ℕ)). TakesAtMost (limit + 1) (holds name) (new.left name)) same takes)
+]
+
 -- one file was read, of two that were named
 pub reads_first : (old new : HouseState) (x y : List ℕ) → ReadsOnly old new (x ∷ []) → ReadsOnly old new (x ∷ y ∷ [])
 reads_first old new x y h = record {
   holds = h.holds;
+  within = h.within;
   wrote = h.wrote;
   open_in = h.open_in;
   open_out = h.open_out;
@@ -53,6 +57,7 @@ pub reads_both : (old mid new : HouseState) (x y : List ℕ) → ReadsOnly old m
     → ReadsOnly old new (x ∷ y ∷ [])
 reads_both old mid new x y h asked i = record {
   holds = i.holds ∙ h.holds;
+  within = within_then old mid new h.holds h.within i.within;
   wrote = i.wrote ∙ h.wrote;
   open_in = i.open_in ∙ h.open_in;
   open_out = i.open_out ∙ h.open_out;

@@ -1,18 +1,22 @@
 -- A file loads or is refused, and not both; so the statuses exclude one another.
-use Rattle.std.proofs.Common.{◌≡◌, ◌∙◌, ◌⊎◌, inl, inr, ℕ, true, List, Option, Some, refl, sym, subst, arith}
+use Rattle.std.proofs.Common.{◌≡◌, ◌∙◌, ◌⊎◌, ◌<◌, ◌≤◌, inl, inr, ℕ, true, List, length, Option, Some, refl, sym, subst, arith}
 use Rattle.dl_io.specs.Outside.{Rose}
 use Rattle.dl_io.specs.House.{HouseState}
 use Rattle.dl_theory.specs.Lists.{TheoryLists}
 use Rattle.dl_read.specs.declared.file.ReadStop.TheVariants as stop
-use Rattle.dl_read.proofs.Unique.{loads_or_stops}
+use Rattle.dl_read.proofs.Unique.{loads_one, loads_or_stops}
 use Rattle.ddl.specs.declared.refusal.Refusal.{Refusal}
 use Rattle.ddl.specs.declared.refusal.Refusal.TheVariants.{Size, Form, Variables, Edit}
 use Rattle.ddl.specs.declared.status.Status.TheVariants as status
 use Rattle.ddl.specs.declared.status.Status.{Status}
 use Rattle.ddl.specs.Words as words
 use Rattle.ddl.specs.Words.{form}
-use Rattle.ddl.specs.Theories.{IsTheoryFile, IsRefusal}
-use Rattle.ddl.specs.Run.{Outcome, Shows, usage, refused, concluded, printed, too_large, checked, Answers}
+use Rattle.ddl.specs.declared.check.Checked.{Checked}
+use Rattle.ddl.specs.declared.reply.Reply.TheVariants as reply
+use Rattle.ddl.specs.Theories.{limit, IsTheoryFile, IsRefusal}
+use Rattle.ddl.specs.Checks.{IsOnlyChecked}
+use Rattle.ddl.specs.Replies.{reply_status}
+use Rattle.ddl.specs.Run.{Outcome, Shows, usage, refused, concluded, printed, too_large, checked, Answers, AsksAbout}
 
 pub not_both : (bytes : List ℕ) (T : TheoryLists) (x : Refusal) → IsTheoryFile bytes T → IsRefusal bytes x → ⊥
 not_both bytes T Size t h = absurd (omega (arith, t.0, h))
@@ -30,10 +34,10 @@ module _ (holds : List ℕ → Option (List ℕ)) (asked : words.Form) (bytes : 
       same_bytes (holds (words.file_of asked)) bytes b held (subst (λ (f : words.Form). holds (words.file_of f) ≡ Some b) same h)
 
   -- where the file loads, the words are answered
-  pub loads_done : words.IsAlone asked → (T : TheoryLists) → IsTheoryFile bytes T → (form : Option words.Form) (outcome : Outcome) → form ≡ Some asked → Shows holds form outcome
+  pub loads_done : words.IsAlone asked → (T : TheoryLists) → IsTheoryFile bytes T → (form : Option words.Form) (names : List (List ℕ)) (outcome : Outcome) → form ≡ Some asked → Shows holds form names outcome
       → outcome.status ≡ status.Done
-  loads_done alone T t form outcome e s =
-      elim s as (λ f o _. f ≡ Some asked → o.status ≡ status.Done) [
+  loads_done alone T t form names outcome e s =
+      elim s as (λ f n o _. f ≡ Some asked → o.status ≡ status.Done) [
         | usage ↦ λ i. absurd (cc)
         | refused a b x h r ↦ λ i. absurd (not_both b T x (subst (λ (y : List ℕ). IsTheoryFile y T) (bytes_of a b i h) t) r)
         | concluded f file b U cs h u c ↦ λ i. refl
@@ -46,10 +50,10 @@ module _ (holds : List ℕ → Option (List ℕ)) (asked : words.Form) (bytes : 
       not_alone f c i = let same : words.Check f c ≡ asked = cc in subst (λ (a : words.Form). words.IsAlone a) (sym same) alone
 
   -- where the file of the theory is refused, so are the words
-  pub refused_refused : (x : Refusal) → IsRefusal bytes x → (form : Option words.Form) (outcome : Outcome) → form ≡ Some asked → Shows holds form outcome
+  pub refused_refused : (x : Refusal) → IsRefusal bytes x → (form : Option words.Form) (names : List (List ℕ)) (outcome : Outcome) → form ≡ Some asked → Shows holds form names outcome
       → outcome.status ≡ status.Refused
-  refused_refused x r form outcome e s =
-      elim s as (λ f o _. f ≡ Some asked → o.status ≡ status.Refused) [
+  refused_refused x r form names outcome e s =
+      elim s as (λ f n o _. f ≡ Some asked → o.status ≡ status.Refused) [
         | usage ↦ λ i. absurd (cc)
         | refused a b y h q ↦ λ i. refl
         | concluded f file b U cs h u c ↦ λ i. absurd (not_both b U x u (subst (λ (y : List ℕ). IsRefusal y x) (bytes_of (words.Conclude f file) b i h) r))
@@ -58,10 +62,48 @@ module _ (holds : List ℕ → Option (List ℕ)) (asked : words.Form) (bytes : 
         | checked f c b m U y h u k l j ↦ λ i. absurd (not_both b U x u (subst (λ (z : List ℕ). IsRefusal z x) (bytes_of (words.Check f c) b i h) r))
       ] e
 
+-- where the theory loads, a certificate ends the program as it is judged
+module _ (old : HouseState) (given : List (List ℕ)) (T : TheoryLists) (certificate : List ℕ) (asks : AsksAbout old given T certificate) (expected : Status)
+    (large : limit < length certificate → status.Refused ≡ expected)
+    (judged : (x : Checked) → length certificate ≤ limit → IsOnlyChecked T certificate x → reply_status (reply.Checked x) ≡ expected) where
+  abbrev asked : words.Form
+  asked = words.Check asks.theory asks.cert
+
+  same_theory : (f c b : List ℕ) → Some (words.Check f c) ≡ Some asked → old.holds f ≡ Some b → b ≡ asks.bytes
+  same_theory f c b i h =
+      let same : f ≡ asks.theory = cc in
+      same_bytes (old.holds asks.theory) b asks.bytes (subst (λ (name : List ℕ). old.holds name ≡ Some b) same h) asks.held
+
+  same_certificate : (f c m : List ℕ) → Some (words.Check f c) ≡ Some asked → old.holds c ≡ Some m → m ≡ certificate
+  same_certificate f c m i k =
+      let same : c ≡ asks.cert = cc in
+      same_bytes (old.holds asks.cert) m certificate (subst (λ (name : List ℕ). old.holds name ≡ Some m) same k) asks.kept
+
+  one_theory : (b : List ℕ) (U : TheoryLists) → b ≡ asks.bytes → IsTheoryFile b U → U ≡ T
+  one_theory b U e u = loads_one asks.bytes T U asks.loads.1 (subst (λ (l : List ℕ). IsTheoryFile l U) e u).1
+
+  pub certificate_ends : (names : List (List ℕ)) (outcome : Outcome) → Shows old.holds (form given) names outcome → outcome.status ≡ expected
+  certificate_ends names outcome s =
+      elim s as (λ f n o _. f ≡ Some asked → o.status ≡ expected) [
+        | usage ↦ λ i. absurd (cc)
+        | refused a b x h r ↦ λ i.
+            let same : a ≡ asked = cc in
+            let held = subst (λ (g : words.Form). old.holds (words.file_of g) ≡ Some b) same h in
+            absurd (not_both b T x (subst (λ (l : List ℕ). IsTheoryFile l T) (same_bytes (old.holds asks.theory) asks.bytes b asks.held held) asks.loads) r)
+        | concluded f file b U cs h u c ↦ λ i. absurd (cc)
+        | printed file b U h u ↦ λ i. absurd (cc)
+        | too_large f c b m U h u k l ↦ λ i. large (subst (λ (n : List ℕ). limit < length n) (same_certificate f c m i k) l)
+        | checked f c b m U x h u k l j ↦ λ i.
+            let e = same_certificate f c m i k in
+            judged x (subst (λ (n : List ℕ). length n ≤ limit) e l)
+            (subst (λ (n : List ℕ). IsOnlyChecked T n x) e
+            (subst (λ (V : TheoryLists). IsOnlyChecked V m x) (one_theory b U (same_theory f c b i h) u) j))
+      ] asks.asks
+
 -- what the house's count did not stop ends as its outcome does, or for want of memory
 module _ (old new : HouseState) (words : List (List ℕ)) (ends expected : Status) (calm : Rose old.faults new.faults → ⊥)
-    (only : (outcome : Outcome) → Shows old.holds (form words) outcome → outcome.status ≡ expected) where
+    (only : (names : List (List ℕ)) (outcome : Outcome) → Shows old.holds (form words) names outcome → outcome.status ≡ expected) where
   pub ends_so : Answers true old new words ends → (ends ≡ expected) ⊎ (ends ≡ status.Memory)
-  ends_so (inl says) = let o = says.shown refl in inl (o.2 ∙ only o.0 o.1)
+  ends_so (inl says) = let o = says.shown refl in inl (o.2 ∙ only says.names o.0 o.1)
   ends_so (inr (inl fails)) = absurd (calm fails.rose)
   ends_so (inr (inr lacks)) = inr lacks.memory

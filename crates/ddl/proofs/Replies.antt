@@ -18,9 +18,9 @@ module _ (tells : Bool) (old now : HouseState) (handed : Option (List ℕ)) (fau
   settled = settled_out now standard handed faults
 
   answers : Answers tells opened settled words status → Answers tells old settled words status
-  answers (inl says) = inl (record { no_fault = says.no_fault; may_end = says.may_end; shown = says.shown })
+  answers (inl says) = inl (record { no_fault = says.no_fault; names = says.names; asked_in = says.asked_in; may_end = says.may_end; shown = says.shown })
   answers (inr (inl fails)) = inr (inl (record { fault = fails.fault; rose = fails.rose; front = fails.front }))
-  answers (inr (inr lacks)) = inr (inr (record { memory = lacks.memory; front = lacks.front }))
+  answers (inr (inr lacks)) = inr (inr (record { memory = lacks.memory; no_fault = lacks.no_fault; front = lacks.front }))
 
   -- standard output was opened, the words were answered, and it was settled
   run_at : IsShut old → ReadsOnly opened now (files_of words) → Answers tells opened settled words status → Runs tells old settled words status
@@ -31,6 +31,7 @@ module _ (tells : Bool) (old now : HouseState) (handed : Option (List ℕ)) (fau
     };
     asked_in = reads.asked_in;
     asked_out = (standard ∷ [], [], refl, reads.asked_out);
+    within = reads.within;
     answer = answers answer;
   }
 

@@ -5,7 +5,7 @@ use Rattle.ddl.specs.declared.refusal.Refusal.TheVariants as refusal
 use Rattle.ddl.specs.declared.reply.Reply.{Reply}
 use Rattle.ddl.specs.declared.reply.Reply.TheVariants as reply
 use Rattle.ddl.specs.Theories.{limit}
-use Rattle.ddl.specs.Checks.{IsChecked}
+use Rattle.ddl.specs.Checks.{IsOnlyChecked}
 
 -- the bytes are too many, or this is said of them
 abbrev pub SaysOfCertificate : TheoryLists → List ℕ → Reply → Type 0
@@ -16,4 +16,4 @@ SaysOfCertificate T bytes (reply.Refused (refusal.Variables line)) = ⊥
 SaysOfCertificate T bytes (reply.Refused (refusal.Edit line x)) = ⊥
 SaysOfCertificate T bytes (reply.Conclusions f cs) = ⊥
 SaysOfCertificate T bytes (reply.Text U) = ⊥
-SaysOfCertificate T bytes (reply.Checked x) = (length bytes ≤ limit) × IsChecked T bytes x
+SaysOfCertificate T bytes (reply.Checked x) = (length bytes ≤ limit) × IsOnlyChecked T bytes x

@@ -48,6 +48,10 @@ IsChecked T bytes (Rejected line) =
     IsFirstBadLine (certificate_lines bytes) line
     ⊎ ((cert : Certificate) × IsCertificate (certificate_lines bytes) cert × IsJudged T cert (Rejected line))
 
+-- this is said of them, and nothing else can be
+abbrev pub IsOnlyChecked : TheoryLists → List ℕ → Checked → Type 0
+IsOnlyChecked T bytes x = IsChecked T bytes x × ((y : Checked) → IsChecked T bytes y → y ≡ x)
+
 abbrev pub checked_line : Checked → List ℕ
 checked_line Accepted = codes "accepted\n"
 checked_line (Rejected line) = codes "rejected " ++ (decimal line ++ (10 ∷ []))

@@ -1,5 +1,5 @@
 -- What a run of the program is.
-use Rattle.std.specs.Prelude.{◌≡◌, ◌⊎◌, ℕ, ◌<◌, ◌≤◌, length, Bool, List, [], ◌∷◌, ◌++◌, Option, None, Some, IsTrue}
+use Rattle.std.specs.Prelude.{◌≡◌, ◌⊎◌, ℕ, ◌+◌, ◌<◌, ◌≤◌, length, Bool, List, [], ◌∷◌, ◌++◌, Option, None, Some, IsTrue}
 use Rattle.dl_lit.specs.declared.literal.Family.{Family}
 use Rattle.dl_io.specs.Outside.{Rose, at_name}
 use Rattle.dl_io.specs.Streams.{IsFront}
@@ -16,7 +16,8 @@ use Rattle.ddl.specs.declared.refusal.Refusal.TheVariants as refusal
 use Rattle.ddl.specs.declared.check.Checked.{Checked}
 use Rattle.ddl.specs.Words.{Form, Conclude, Print, Check, form, file_of}
 use Rattle.ddl.specs.Theories.{limit, IsTheoryFile, IsRefusal, refused_line}
-use Rattle.ddl.specs.Checks.{IsChecked}
+use Rattle.ddl.specs.Checks.{IsOnlyChecked}
+use Rattle.ddl.specs.Whole.{TakesAtMost}
 use Rattle.ddl.specs.Conclusions.{conclusions_text}
 use Rattle.ddl.specs.declared.reply.Reply.{Reply}
 use Rattle.ddl.specs.Replies.{usage_line, reply_status, reply_text}
@@ -29,26 +30,28 @@ pub record Outcome : Type 0 where
 abbrev pub outcome_of : Reply → Outcome
 outcome_of reply = record { status = reply_status reply; text = reply_text reply }
 
--- What the program says, by the form of its words and what the files hold. A refusal may show one of several paths.
-pub data Shows (holds : List ℕ → Option (List ℕ)) : Option Form → Outcome → Type 0 where
-  -- the words have no form
-  usage : Shows holds None (record { status = status.Usage; text = usage_line })
-  -- the file is too large, or does not load
+-- What the program says, by the form of its words and what the files hold, and the names that it opens for that, in order.
+-- A refusal may show one of several paths.
+pub data Shows (holds : List ℕ → Option (List ℕ)) : Option Form → List (List ℕ) → Outcome → Type 0 where
+  -- the words have no form: nothing is opened
+  usage : Shows holds None [] (record { status = status.Usage; text = usage_line })
+  -- the file of the theory is too large, or does not load: no other is opened
   refused : (asked : Form) (bytes : List ℕ) (x : Refusal) → holds (file_of asked) ≡ Some bytes → IsRefusal bytes x
-      → Shows holds (Some asked) (record { status = status.Refused; text = refused_line x })
+      → Shows holds (Some asked) (file_of asked ∷ []) (record { status = status.Refused; text = refused_line x })
   -- the conclusions of the theory in a family
   concluded : (f : Family) (file bytes : List ℕ) (T : TheoryLists) (cs : List Conclusion) → holds file ≡ Some bytes
       → IsTheoryFile bytes T → AreConclusions T f cs
-      → Shows holds (Some (Conclude f file)) (record { status = status.Done; text = conclusions_text f cs })
+      → Shows holds (Some (Conclude f file)) (file ∷ []) (record { status = status.Done; text = conclusions_text f cs })
   -- the canonical text of the theory
   printed : (file bytes : List ℕ) (T : TheoryLists) → holds file ≡ Some bytes → IsTheoryFile bytes T
-      → Shows holds (Some (Print file)) (record { status = status.Done; text = theory_text T })
+      → Shows holds (Some (Print file)) (file ∷ []) (record { status = status.Done; text = theory_text T })
   -- the theory loads, and the certificate is too large
   too_large : (theory cert bytes more : List ℕ) (T : TheoryLists) → holds theory ≡ Some bytes → IsTheoryFile bytes T → holds cert ≡ Some more
-      → limit < length more → Shows holds (Some (Check theory cert)) (outcome_of (reply.Refused refusal.Size))
-  -- the theory loads, and the certificate is accepted or rejected
+      → limit < length more → Shows holds (Some (Check theory cert)) (theory ∷ cert ∷ []) (outcome_of (reply.Refused refusal.Size))
+  -- the theory loads, and the certificate is accepted or rejected, and nothing else can be said of it
   checked : (theory cert bytes more : List ℕ) (T : TheoryLists) (x : Checked) → holds theory ≡ Some bytes → IsTheoryFile bytes T → holds cert ≡ Some more
-      → length more ≤ limit → IsChecked T more x → Shows holds (Some (Check theory cert)) (outcome_of (reply.Checked x))
+      → length more ≤ limit → IsOnlyChecked T more x
+      → Shows holds (Some (Check theory cert)) (theory ∷ cert ∷ []) (outcome_of (reply.Checked x))
 
 -- the files that the words name, in order
 abbrev pub files_for : Option Form → List (List ℕ)
@@ -64,43 +67,64 @@ files_of words = files_for (form words)
 abbrev pub GrowsBy : List (List ℕ) → List (List ℕ) → List (List ℕ) → Type 0
 GrowsBy old new names = (first : List (List ℕ)) × (more : List (List ℕ)) × (names ≡ first ++ more) × (new ≡ old ++ first)
 
+-- Under a name nothing was read, or at most one byte more than the limit of what it holds.
+abbrev pub ReadsWithin : HouseState → HouseState → Type 0
+ReadsWithin old new = (name : List ℕ) → (new.left name ≡ old.left name) ⊎ TakesAtMost (limit + 1) (old.holds name) (new.left name)
+
 -- names were opened for input, read and settled, and nothing else
 pub record ReadsOnly (old new : HouseState) (names : List (List ℕ)) : Type 0 where
   pub holds : new.holds ≡ old.holds
+  pub within : ReadsWithin old new
   pub wrote : new.wrote ≡ old.wrote
   pub open_in : new.open_in ≡ old.open_in
   pub open_out : new.open_out ≡ old.open_out
   pub asked_in : GrowsBy old.asked_in new.asked_in names
   pub asked_out : new.asked_out ≡ old.asked_out
 
--- the statuses with which the program ends by itself, by its words
-abbrev pub MayEnd : Option Form → Status → Type 0
-MayEnd None ends = ends ≡ status.Usage
-MayEnd (Some (Conclude f file)) ends = (ends ≡ status.Done) ⊎ (ends ≡ status.Refused)
-MayEnd (Some (Print file)) ends = (ends ≡ status.Done) ⊎ (ends ≡ status.Refused)
-MayEnd (Some (Check theory cert)) ends = (ends ≡ status.Done) ⊎ ((ends ≡ status.Refused) ⊎ (ends ≡ status.Rejected))
+-- the statuses with which the program ends by itself after a certificate was opened
+abbrev pub MayJudge : Status → Type 0
+MayJudge ends = (ends ≡ status.Done) ⊎ ((ends ≡ status.Refused) ⊎ (ends ≡ status.Rejected))
 
--- The words ask for this.
-abbrev pub IsOutcome : List (List ℕ) → (List ℕ → Option (List ℕ)) → Outcome → Type 0
-IsOutcome words holds outcome = Shows holds (form words) outcome
+-- those with which it ends by itself, by its words, and the names that it opens then
+abbrev pub MayEnd : Option Form → List (List ℕ) → Status → Type 0
+MayEnd None names ends = (names ≡ []) × (ends ≡ status.Usage)
+MayEnd (Some (Conclude f file)) names ends = (names ≡ file ∷ []) × ((ends ≡ status.Done) ⊎ (ends ≡ status.Refused))
+MayEnd (Some (Print file)) names ends = (names ≡ file ∷ []) × ((ends ≡ status.Done) ⊎ (ends ≡ status.Refused))
+MayEnd (Some (Check theory cert)) names ends = ((names ≡ theory ∷ []) × (ends ≡ status.Refused)) ⊎ ((names ≡ theory ∷ cert ∷ []) × MayJudge ends)
 
--- The reply is what the words ask for.
-abbrev pub IsReply : HouseState → List (List ℕ) → Reply → Type 0
-IsReply house words reply = IsOutcome words house.holds (outcome_of reply)
+-- The words ask for this, and these names are opened for it.
+abbrev pub IsOutcome : List (List ℕ) → (List ℕ → Option (List ℕ)) → List (List ℕ) → Outcome → Type 0
+IsOutcome words holds names outcome = Shows holds (form words) names outcome
+
+-- The reply is what the words ask for, and exactly the names that it takes were opened, in order.
+pub record Replies (tells : Bool) (old new : HouseState) (asked : Option Form) (reply : Reply) : Type 0 where
+  pub names : List (List ℕ)
+  pub asked_in : new.asked_in ≡ old.asked_in ++ names
+  pub may_end : MayEnd asked names (reply_status reply)
+  pub shown : IsTrue tells → Shows old.holds asked names (outcome_of reply)
 
 -- a front of a text that the words ask for
 abbrev pub IsBegun : List (List ℕ) → (List ℕ → Option (List ℕ)) → List ℕ → Type 0
-IsBegun words holds front = (front ≡ []) ⊎ ((outcome : Outcome) × IsOutcome words holds outcome × IsFront front outcome.text)
+IsBegun words holds front =
+    (front ≡ []) ⊎ ((names : List (List ℕ)) × (outcome : Outcome) × IsOutcome words holds names outcome × IsFront front outcome.text)
 
--- The program said what its words ask for, and all of it was handed on to standard output. Nothing failed.
+-- The program said what its words ask for, and all of it was handed on to standard output. Nothing failed, and no name was opened
+-- but those that the answer takes.
 pub record Says (tells : Bool) (old new : HouseState) (words : List (List ℕ)) (ends : Status) : Type 0 where
   pub no_fault : new.faults ≡ old.faults
-  pub may_end : MayEnd (form words) ends
-  pub shown : IsTrue tells → (outcome : Outcome) × IsOutcome words old.holds outcome × (ends ≡ outcome.status) × (new.wrote ≡ at_name old.wrote standard (Some outcome.text))
+  pub names : List (List ℕ)
+  pub asked_in : new.asked_in ≡ old.asked_in ++ names
+  pub may_end : MayEnd (form words) names ends
+  pub shown : IsTrue tells → (outcome : Outcome) × IsOutcome words old.holds names outcome × (ends ≡ outcome.status)
+      × (new.wrote ≡ at_name old.wrote standard (Some outcome.text))
 
--- The program stopped before: a front of what its words ask for was handed on to standard output, and nothing else.
+-- The program stopped before: standard output, which is opened first, was not opened, and then no other name was asked for; or a front
+-- of what the words ask for was handed on to it, and nothing else.
 abbrev pub Stops : Bool → HouseState → HouseState → List (List ℕ) → Type 0
-Stops tells old new words = IsTrue tells → (new.wrote ≡ old.wrote) ⊎ ((front : List ℕ) × IsBegun words old.holds front × (new.wrote ≡ at_name old.wrote standard (Some front)))
+Stops tells old new words =
+    IsTrue tells
+    → ((new.wrote ≡ old.wrote) × (new.asked_in ≡ old.asked_in))
+    ⊎ ((front : List ℕ) × IsBegun words old.holds front × (new.wrote ≡ at_name old.wrote standard (Some front)))
 
 -- The outside failed.
 pub record Fails (tells : Bool) (old new : HouseState) (words : List (List ℕ)) (ends : Status) : Type 0 where
@@ -108,9 +132,10 @@ pub record Fails (tells : Bool) (old new : HouseState) (words : List (List ℕ))
   pub rose : Rose old.faults new.faults
   pub front : Stops tells old new words
 
--- There was no memory.
+-- There was no memory. Nothing failed.
 pub record Lacks (tells : Bool) (old new : HouseState) (words : List (List ℕ)) (ends : Status) : Type 0 where
   pub memory : ends ≡ status.Memory
+  pub no_fault : new.faults ≡ old.faults
   pub front : Stops tells old new words
 
 abbrev pub Answers : Bool → HouseState → HouseState → List (List ℕ) → Status → Type 0
@@ -121,4 +146,15 @@ pub record Runs (tells : Bool) (old new : HouseState) (words : List (List ℕ)) 
   pub shut : IsShut new
   pub asked_in : GrowsBy old.asked_in new.asked_in (files_of words)
   pub asked_out : GrowsBy old.asked_out new.asked_out (standard ∷ [])
+  pub within : ReadsWithin old new
   pub answer : Answers tells old new words ends
+
+-- The words ask whether these bytes are a certificate of this theory.
+pub record AsksAbout (house : HouseState) (words : List (List ℕ)) (T : TheoryLists) (certificate : List ℕ) : Type 0 where
+  pub theory : List ℕ
+  pub cert : List ℕ
+  pub bytes : List ℕ
+  pub asks : form words ≡ Some (Check theory cert)
+  pub held : house.holds theory ≡ Some bytes
+  pub loads : IsTheoryFile bytes T
+  pub kept : house.holds cert ≡ Some certificate

@@ -1,7 +1,7 @@
 //! Checking a certificate.
 
 ghost use Rattle.std.specs.Prelude.{◌≡◌, ◌+◌, IfOk};
-ghost use Rattle.ddl.specs.Checks.{flaw_line, IsAnswer, IsJudged, IsChecked};
+ghost use Rattle.ddl.specs.Checks.{flaw_line, IsAnswer, IsJudged, IsOnlyChecked};
 
 use dl_check::{CertStop, CheckStop, Checker, Flaw, read_certificate};
 use dl_lit::Memory;
@@ -65,9 +65,9 @@ fn judge(alloc: Global, theory: &Theory, certificate: &Certificate) -> Result<Ch
     }
 }
 
-/// What is said of the bytes of a certificate.
+/// What is said of the bytes of a certificate; nothing else can be said of them. `Memory` where there is none for it.
 pub fn check(alloc: Global, theory: &Theory, bytes: &[u8]) -> Result<Checked, Memory>
-    ensures { IfOk result (IsChecked theory.now bytes.now) }
+    ensures { IfOk result (IsOnlyChecked theory.now bytes.now) }
 {
     match read_certificate(alloc, bytes) {
         Ok(certificate) => {

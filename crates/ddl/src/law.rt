@@ -1,12 +1,14 @@
 //! What the clause of the program says of each status.
 
-ghost use Rattle.std.specs.Prelude.{◌≡◌, ◌⊎◌, Bool, true, List, ℕ, None, Some};
+ghost use Rattle.std.specs.Prelude.{◌≡◌, ◌⊎◌, ◌<◌, ◌≤◌, Bool, true, List, ℕ, None, Some, length};
 ghost use Rattle.dl_io.specs.Outside.{Rose};
 ghost use Rattle.dl_io.specs.House.{HouseState};
 ghost use Rattle.dl_theory.specs.Lists.{TheoryLists};
-ghost use Rattle.ddl.specs.Run.{Answers};
-ghost use Rattle.ddl.specs.Theories.{IsTheoryFile, IsRefusal};
+ghost use Rattle.ddl.specs.Checks.{IsChecked};
+ghost use Rattle.ddl.specs.Run.{Answers, AsksAbout};
+ghost use Rattle.ddl.specs.Theories.{limit, IsTheoryFile, IsRefusal};
 ghost use Rattle.ddl.specs.Words.{Form, form, file_of, IsAlone};
+ghost use Rattle.ddl.specs.declared.check.Checked.{Checked};
 ghost use Rattle.ddl.specs.declared.refusal.Refusal.{Refusal};
 ghost use Rattle.ddl.specs.declared.status.Status.{Status};
 
@@ -28,4 +30,19 @@ pub fn statuses_are_exact()
         → (Rose old.faults new.faults → ⊥) → (ends ≡ Status.Refused) ⊎ (ends ≡ Status.Memory) }
     ensures no_form { (tells : Bool) (old new : HouseState) (words : List (List ℕ)) (ends : Status) → Answers tells old new words ends → form words ≡ None
         → (Rose old.faults new.faults → ⊥) → (ends ≡ Status.Usage) ⊎ (ends ≡ Status.Memory) }
+{}
+
+/// Where the words ask about a certificate, its theory loads and no count of faults rose: one that is too large is refused, one that
+/// is accepted ends with Done and one that is rejected with Rejected, or there was no memory. So Rejected never stands for a
+/// certificate that is accepted, nor the other way.
+pub fn certificates_are_judged()
+    ensures too_large { (old new : HouseState) (words : List (List ℕ)) (ends : Status) (T : TheoryLists) (bytes : List ℕ)
+        → Answers true old new words ends → AsksAbout old words T bytes → limit < length bytes
+        → (Rose old.faults new.faults → ⊥) → (ends ≡ Status.Refused) ⊎ (ends ≡ Status.Memory) }
+    ensures accepts { (old new : HouseState) (words : List (List ℕ)) (ends : Status) (T : TheoryLists) (bytes : List ℕ)
+        → Answers true old new words ends → AsksAbout old words T bytes → length bytes ≤ limit → IsChecked T bytes Checked.Accepted
+        → (Rose old.faults new.faults → ⊥) → (ends ≡ Status.Done) ⊎ (ends ≡ Status.Memory) }
+    ensures rejects { (old new : HouseState) (words : List (List ℕ)) (ends : Status) (T : TheoryLists) (bytes : List ℕ) (line : ℕ)
+        → Answers true old new words ends → AsksAbout old words T bytes → length bytes ≤ limit → IsChecked T bytes (Checked.Rejected line)
+        → (Rose old.faults new.faults → ⊥) → (ends ≡ Status.Rejected) ⊎ (ends ≡ Status.Memory) }
 {}

@@ -18,6 +18,6 @@ mod theory_file;
 mod whole;
 mod words;
 
-pub use law::statuses_are_exact;
+pub use law::{certificates_are_judged, statuses_are_exact};
 pub use program::run;
 pub use status::Status;

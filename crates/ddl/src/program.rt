@@ -1,11 +1,11 @@
 //! The top call: from the words of the command line to standard output and a status.
 
-ghost use Rattle.std.specs.Prelude.{◌≡◌, ◌⊎◌, ◌∷◌, [], List, ℕ, Option, false, map, string_bytes, IsTrue, IfOk, Some};
+ghost use Rattle.std.specs.Prelude.{◌≡◌, ◌⊎◌, ◌∷◌, ◌++◌, [], List, ℕ, Option, false, map, string_bytes, IsTrue, IfOk, OnOk, Some};
 ghost use Rattle.dl_io.specs.House.{IsShut, IsOpenedOut, settled_out, standard};
 ghost use Rattle.dl_io.specs.Outside.{HasCause};
 ghost use Rattle.dl_io.specs.Streams.{WritesAll};
 ghost use Rattle.ddl.specs.Replies.{reply_status, reply_text, HandsOn};
-ghost use Rattle.ddl.specs.Run.{Runs, Answers, ReadsOnly, IsReply, MayEnd, Shows, outcome_of, files_for, files_of};
+ghost use Rattle.ddl.specs.Run.{Runs, Answers, ReadsOnly, Replies, MayJudge, Shows, outcome_of, files_for, files_of};
 ghost use Rattle.ddl.specs.Certified.{SaysOfCertificate};
 ghost use Rattle.ddl.specs.Theories.{limit, HoldsTheory, HoldsNumbered};
 ghost use Rattle.ddl.specs.Whole.{IsWhole, HasFault};
@@ -32,7 +32,7 @@ use std::thread::Threads;
 // The conclusions, in a family, of what a file gives.
 fn conclude(alloc: Global, family: Family, loaded: Loaded<NumberedTheory>) -> Result<Reply, Memory>
     ensures shown { (holds : List ℕ → Option (List ℕ)) (file : List ℕ) → HoldsNumbered (holds file) loaded
-        → IfOk result (λ reply. Shows holds (Some (Conclude family file)) (outcome_of reply)) }
+        → IfOk result (λ reply. Shows holds (Some (Conclude family file)) (file ∷ []) (outcome_of reply)) }
     ensures ends { IfOk result (λ reply. (reply_status reply ≡ Status.Done) ⊎ (reply_status reply ≡ Status.Refused)) }
 {
     match loaded {
@@ -47,7 +47,7 @@ fn conclude(alloc: Global, family: Family, loaded: Loaded<NumberedTheory>) -> Re
 // The canonical text of what a file gives.
 fn print_of(loaded: Loaded<Theory>) -> Reply
     ensures shown { (holds : List ℕ → Option (List ℕ)) (file : List ℕ) → HoldsTheory (holds file) loaded
-        → Shows holds (Some (Print file)) (outcome_of result) }
+        → Shows holds (Some (Print file)) (file ∷ []) (outcome_of result) }
     ensures ends { (reply_status result ≡ Status.Done) ⊎ (reply_status result ≡ Status.Refused) }
 {
     match loaded {
@@ -59,7 +59,7 @@ fn print_of(loaded: Loaded<Theory>) -> Reply
 // What is said of a certificate that was read. `None` are more bytes than the limit.
 fn check_whole(alloc: Global, theory: &Theory, whole: &Option<Vec<u8>>) -> Result<Reply, Memory>
     ensures said { (bytes : List ℕ) → IsWhole limit (Some bytes) whole.now → IfOk result (SaysOfCertificate theory.now bytes) }
-    ensures ends { IfOk result (λ reply. MayEnd (Some (Check [] [])) (reply_status reply)) }
+    ensures ends { IfOk result (λ reply. MayJudge (reply_status reply)) }
 {
     match whole {
         None => Ok(Reply::Refused(Refusal::Size)),
@@ -80,7 +80,8 @@ fn check_file<H: House>(
     requires { (H.state house.old).open_in (string_bytes cert.now) ≡ false }
     ensures house { ReadsOnly (H.state house.old) (H.state house.new) (string_bytes cert.now ∷ []) }
     ensures cause { HasFault (H.state house.old).faults (H.state house.new).faults result }
-    ensures ends { IfOk result (λ reply. MayEnd (Some (Check [] [])) (reply_status reply)) }
+    ensures ends { IfOk result (λ reply. MayJudge (reply_status reply)) }
+    ensures asked { OnOk result ((H.state house.new).asked_in ≡ (H.state house.old).asked_in ++ string_bytes cert.now ∷ []) }
     ensures said { IsTrue H.tells → IfOk result (λ reply. (bytes : List ℕ)
         × ((H.state house.old).holds (string_bytes cert.now) ≡ Some bytes) × SaysOfCertificate theory.now bytes reply) }
 {
@@ -99,9 +100,7 @@ fn check_files<H: House>(
     requires { (name : List ℕ) → (H.state house.old).open_in name ≡ false }
     ensures house { ReadsOnly (H.state house.old) (H.state house.new) (string_bytes file.now ∷ string_bytes cert.now ∷ []) }
     ensures cause { HasFault (H.state house.old).faults (H.state house.new).faults result }
-    ensures ends { IfOk result (λ reply. MayEnd (Some (Check [] [])) (reply_status reply)) }
-    ensures shown { IsTrue H.tells → IfOk result (λ reply.
-        Shows (H.state house.old).holds (Some (Check (string_bytes file.now) (string_bytes cert.now))) (outcome_of reply)) }
+    ensures reply { IfOk result (Replies H.tells (H.state house.old) (H.state house.new) (Some (Check (string_bytes file.now) (string_bytes cert.now)))) }
 {
     match load(alloc, house, file, Theory::make(alloc))? {
         Loaded::Refused(refusal) => Ok(Reply::Refused(refusal)),
@@ -117,9 +116,7 @@ fn reply_of<H: House>(alloc: Global, command: Command<'_>, house: &mut H) -> Res
     requires { (name : List ℕ) → (H.state house.old).open_in name ≡ false }
     ensures house { ReadsOnly (H.state house.old) (H.state house.new) (files_for (Some (form_of command.entry))) }
     ensures cause { HasFault (H.state house.old).faults (H.state house.new).faults result }
-    ensures ends { IfOk result (λ reply. MayEnd (Some (form_of command.entry)) (reply_status reply)) }
-    ensures shown { IsTrue H.tells → IfOk result (λ reply.
-        Shows (H.state house.old).holds (Some (form_of command.entry)) (outcome_of reply)) }
+    ensures reply { IfOk result (Replies H.tells (H.state house.old) (H.state house.new) (Some (form_of command.entry))) }
 {
     match command {
         Command::Conclude(family, file) => {
@@ -143,8 +140,7 @@ fn reply_to<H: House>(alloc: Global, words: &Vec<String>, house: &mut H) -> Resu
     requires { (name : List ℕ) → (H.state house.old).open_in name ≡ false }
     ensures house { ReadsOnly (H.state house.old) (H.state house.new) (files_of (map string_bytes words.now.items)) }
     ensures cause { HasFault (H.state house.old).faults (H.state house.new).faults result }
-    ensures ends { IfOk result (λ reply. MayEnd (form (map string_bytes words.now.items)) (reply_status reply)) }
-    ensures shown { IsTrue H.tells → IfOk result (IsReply (H.state house.old) (map string_bytes words.now.items)) }
+    ensures reply { IfOk result (Replies H.tells (H.state house.old) (H.state house.new) (form (map string_bytes words.now.items))) }
 {
     match command_of(words) {
         Some(command) => {

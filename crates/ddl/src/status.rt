@@ -1,5 +1,7 @@
 //! How the program ends.
 
+use std::process::ExitCode;
+
 /// The exit statuses 0 to 6, in this order.
 #[derive(Clone, Copy, Debug, PartialEq, Eq)]
 pub enum Status {
@@ -28,5 +30,18 @@ impl Status {
         ensures { result ≡ status_code self }
     {
         self as u8
+    }
+}
+
+/// A process ends with the exit status.
+impl From<Status> for ExitCode {
+    ghost use Rattle.std.specs.Prelude.{◌≡◌};
+    ghost use Rattle.std.specs.Process.{exit_status};
+    ghost use Rattle.ddl.specs.Statuses.{status_code};
+
+    ghost from_gives = { λ status code. exit_status code ≡ status_code status };
+
+    fn from(status: Status) -> ExitCode {
+        ExitCode::from(status.code())
     }
 }

@@ -47,5 +47,5 @@ fn main(rt: HostRuntime) -> ExitCode {
         Ok((words, mut house)) => run(&rt, rt.alloc(), &words, &mut house),
         Err(status) => status,
     };
-    ExitCode::from(status.code())
+    ExitCode::from(status)
 }

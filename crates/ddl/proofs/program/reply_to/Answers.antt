@@ -1,10 +1,11 @@
-use Rattle.std.proofs.Common.{Option, subst}
+use Rattle.std.proofs.Common.{[], Option, refl, sym, subst, append-nil}
 use Rattle.ddl.specs.declared.reply.Reply.TheVariants as reply
 use Rattle.ddl.specs.Words.{Form}
-use Rattle.ddl.specs.Run.{Shows, usage, outcome_of}
+use Rattle.ddl.specs.Run.{Replies, usage}
 use Rattle.ddl.proofs.program.reply_to.Goals as goal
 
-pub returns-in-None-clause-shown : goal.returns-in-None-clause-shown
-returns-in-None-clause-shown g c = λ told.
-    let holds = (g.H.House.state c.args.house.now).holds in
-    subst (λ (a : Option Form). Shows holds a (outcome_of reply.Usage)) c.in-None.ensures (usage)
+pub returns-in-None-clause-reply : goal.returns-in-None-clause-reply
+returns-in-None-clause-reply g c =
+    let house = g.H.House.state c.args.house.now in
+    subst (λ (a : Option Form). Replies g.H.House.tells house house a reply.Usage) c.in-None.ensures
+    (record { names = []; asked_in = sym (append-nil house.asked_in); may_end = (refl, refl); shown = λ told. usage })

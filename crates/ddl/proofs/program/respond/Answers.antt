@@ -27,7 +27,7 @@ returns-in-Err-clause-answer g c =
       rose = rose_by _ _ _ c.in-Ok.ensures.cause (subst (λ n. Rose n (g.H.Out.Sink.faults c.say.new.sink)) c.requires.opened.no_faults c.in-Err.ensures.cause);
       front = λ tells. inr (
         (front tells).0,
-        inr (outcome_of c.in-Ok.reply, c.in-Ok.ensures.shown tells, (front tells).2),
+        inr (c.in-Ok.ensures.reply.names, outcome_of c.in-Ok.reply, c.in-Ok.ensures.reply.shown tells, (front tells).2),
         λ i. at_name (c.in-Ok.ensures.house.wrote i) standard ((front tells).1 i),
       );
     }))
