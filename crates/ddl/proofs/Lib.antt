@@ -5,4 +5,3 @@ pub mod Replies
 pub mod Judging
 pub mod Certifying
 pub mod Exact
-pub mod Lines

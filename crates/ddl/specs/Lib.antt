@@ -3,7 +3,6 @@ pub mod Whole
 pub mod Statuses
 pub mod Theories
 pub mod Checks
-pub mod Conclusions
 pub mod Replies
 pub mod Certified
 pub mod Run

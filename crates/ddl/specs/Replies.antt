@@ -9,7 +9,7 @@ use Rattle.ddl.specs.declared.reply.Reply.TheVariants as reply
 use Rattle.ddl.specs.declared.check.Checked.TheVariants as checked
 use Rattle.ddl.specs.Theories.{refused_line}
 use Rattle.ddl.specs.Checks.{checked_line}
-use Rattle.ddl.specs.Conclusions.{conclusions_text}
+use Rattle.dl_conclusions.specs.Text.{conclusions_text}
 
 abbrev pub usage_line : List ℕ
 usage_line = codes "usage: ddl conclude F FILE, print FILE, check THEORY CERT, gen N SIZE, serve THEORY NAME [NAME ...]\n"

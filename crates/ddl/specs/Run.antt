@@ -9,8 +9,8 @@ use Rattle.dl_print.specs.Text.{theory_text}
 use Rattle.ddl.specs.declared.status.Status.{Status}
 use Rattle.ddl.specs.declared.status.Status.TheVariants as status
 use Rattle.ddl.specs.declared.refusal.Refusal.{Refusal}
-use Rattle.dl_edition.specs.declared.conclusion.Conclusion.{Conclusion}
-use Rattle.dl_edition.specs.Conclusions.{AreConclusions}
+use Rattle.dl_conclusions.specs.declared.conclusion.Conclusion.{Conclusion}
+use Rattle.dl_conclusions.specs.Conclusions.{AreConclusions}
 use Rattle.ddl.specs.declared.reply.Reply.TheVariants as reply
 use Rattle.ddl.specs.declared.refusal.Refusal.TheVariants as refusal
 use Rattle.ddl.specs.declared.check.Checked.{Checked}
@@ -18,7 +18,7 @@ use Rattle.ddl.specs.Words.{Form, Conclude, Print, Check, form, file_of}
 use Rattle.ddl.specs.Theories.{limit, IsTheoryFile, IsRefusal, refused_line}
 use Rattle.ddl.specs.Checks.{IsOnlyChecked}
 use Rattle.ddl.specs.Whole.{TakesAtMost}
-use Rattle.ddl.specs.Conclusions.{conclusions_text}
+use Rattle.dl_conclusions.specs.Text.{conclusions_text}
 use Rattle.ddl.specs.declared.reply.Reply.{Reply}
 use Rattle.ddl.specs.Replies.{usage_line, reply_status, reply_text}
 

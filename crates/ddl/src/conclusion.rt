@@ -2,11 +2,11 @@
 
 ghost use Rattle.std.specs.Prelude.{◌≡◌, ◌<◌, IfOk};
 ghost use Rattle.std.specs.Arc.{arc_value};
-ghost use Rattle.dl_edition.specs.Conclusions.{AreConclusions};
+ghost use Rattle.dl_conclusions.specs.Conclusions.{AreConclusions};
 ghost use Rattle.dl_update.specs.declared.families.Families.TheVariants as families_of;
 ghost use Rattle.dl_update.specs.RightIn.{AreRightIn};
 
-use dl_edition::Concluded;
+use dl_conclusions::Concluded;
 use dl_lit::{Family, Memory};
 use dl_marks::{Marks, Steps};
 use dl_net::NumberedTheory;

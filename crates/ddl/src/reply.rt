@@ -6,7 +6,7 @@ ghost use Rattle.ddl.specs.Replies.{reply_status};
 use crate::check::Checked;
 use crate::refusal::Refusal;
 use crate::status::Status;
-use dl_edition::Concluded;
+use dl_conclusions::Concluded;
 use dl_lit::Family;
 use dl_theory::Theory;
 

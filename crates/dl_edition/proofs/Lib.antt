@@ -1,6 +1,1 @@
-pub mod Literals
 pub mod Writing
-pub mod Prefixes
-pub mod Pairing
-pub mod Placing
-pub mod Concluding

@@ -4,7 +4,7 @@ use Rattle.dl_theory.specs.Lists.{TheoryLists}
 use Rattle.dl_theory.specs.Marks.{AreRight}
 use Rattle.dl_marks.specs.Marks.{places, IsFrozen}
 use Rattle.dl_fill.specs.Filled.{stands}
-use Rattle.dl_edition.specs.Orders.{IsOrder}
+use Rattle.dl_conclusions.specs.Orders.{IsOrder}
 use Rattle.dl_edition.specs.declared.edition.Edition.TheInside.{Inside}
 
 abbrev pub theory_of : Inside → TheoryLists

@@ -8,14 +8,12 @@ ghost use Rattle.dl_marks.specs.Marks.{places, IsFrozen};
 ghost use Rattle.dl_fill.specs.Filled.{stands};
 ghost use Rattle.dl_theory.specs.Marks.{AreRight};
 ghost use Rattle.dl_theory.specs.Verdicts.{IsVerdict, Fits};
-ghost use Rattle.dl_edition.specs.Conclusions.{AreConclusions};
+ghost use Rattle.dl_conclusions.specs.Conclusions.{AreConclusions};
 ghost use Rattle.dl_edition.specs.Editions.{line_count};
 
-use crate::conclusion::{Conclusions, ordered_conclusions};
-use crate::order::order_of;
 use crate::text::write_net;
-use crate::verdict::verdict_of;
 use dl_base::Memory;
+use dl_conclusions::{Conclusions, order_of, ordered_conclusions, verdict_of};
 use dl_derive::certify;
 use dl_io::{Failed, Sink};
 use dl_lit::{Family, Literal};

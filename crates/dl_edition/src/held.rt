@@ -8,12 +8,12 @@ ghost use Rattle.dl_marks.specs.Marks.{places, IsFrozen};
 ghost use Rattle.dl_fill.specs.Filled.{stands};
 ghost use Rattle.dl_theory.specs.Marks.{AreRight};
 ghost use Rattle.dl_theory.specs.Verdicts.{IsVerdict, Fits};
-ghost use Rattle.dl_edition.specs.Conclusions.{AreConclusions};
+ghost use Rattle.dl_conclusions.specs.Conclusions.{AreConclusions};
 ghost use Rattle.dl_edition.specs.Editions.{line_count};
 
-use crate::conclusion::Conclusions;
 use crate::edition::Edition;
 use dl_base::Memory;
+use dl_conclusions::Conclusions;
 use dl_io::{Failed, Sink};
 use dl_lit::{Family, Literal};
 use dl_marks::Marks;

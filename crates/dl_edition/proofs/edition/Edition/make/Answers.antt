@@ -1,6 +1,6 @@
 use Rattle.std.proofs.Common.{subst, false, None}
 use Rattle.dl_net.specs.Numbers.{NetLists}
-use Rattle.dl_edition.specs.Orders.{IsOrder}
+use Rattle.dl_conclusions.specs.Orders.{IsOrder}
 use Rattle.dl_edition.proofs.edition.Edition.make.Goals as goal
 
 pub invariant_of-result : goal.invariant_of-result

@@ -1,0 +1,6 @@
+pub mod Literals
+pub mod Prefixes
+pub mod Pairing
+pub mod Placing
+pub mod Concluding
+pub mod Lines

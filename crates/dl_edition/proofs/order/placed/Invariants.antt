@@ -1,5 +1,0 @@
-use Rattle.dl_edition.specs.Placing.{ArePlaced}
-use Rattle.dl_edition.proofs.order.placed.Given as goal
-
-abbrev pub invariant-loop-number : goal.invariant-loop-number
-invariant-loop-number l = ArePlaced l.net l.number l.list.items
