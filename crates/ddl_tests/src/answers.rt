@@ -218,6 +218,32 @@ fn files_are_answered(rt: HostRuntime) -> Result<(), Fail> {
     Ok(())
 }
 
+const CHECK: &[&str] = &["check", "t", "c"];
+
+/// There is no file `c`: to open it would be a fault.
+const WITHOUT_CERTIFICATE: [Row; 2] = [
+    Row {
+        words: CHECK,
+        theory: b">> a\n>> 1\n",
+        status: Status::Refused,
+        text: b"refused line 2 form\n",
+    },
+    Row {
+        words: CHECK,
+        theory: b"r: => a\nr > s\n",
+        status: Status::Refused,
+        text: b"refused line 2 unknown s\n",
+    },
+];
+
+#[test]
+fn no_certificate_is_opened_for_a_bad_theory(rt: HostRuntime) -> Result<(), Fail> {
+    for row in WITHOUT_CERTIFICATE.iter() {
+        expect_row(&rt, rt.alloc(), row)?;
+    }
+    Ok(())
+}
+
 const USAGE: &[u8] =
     b"usage: ddl conclude F FILE, print FILE, check THEORY CERT, gen N SIZE, serve THEORY NAME [NAME ...]\n";
 
