@@ -230,6 +230,64 @@ const OPEN: [Open; 6] = [
     },
 ];
 
+/// A theory of 26 atoms, and so of 52 literals. At most ten of them matter for each literal that is asked below, which is less than a
+/// quarter: the answer is made from a theory of these alone. The rules of the others stand between theirs, above some and below some.
+const LARGE: &str = concat!(
+    "w1: x1, x2, x3, x4, x5, x6, x7, x8 => y\n>> x1\nw2: d, q => x2\n>> a\nr1: a => b\nw3: y => x3\nr2: b => c\ns2: => -c\n",
+    "w4: x9, x10, x11, x12, x13, x14, x15, x16 => z\nr3: c => d\ns3: e => -d\nt1: f => q\nt2: b => q\nu1: c => -q\n",
+    "w5: p => x4\nr4: p => p\nr2 > s2\nu1 > w1\nt1 > u1\nw2 > t2\n",
+);
+
+/// The conditions leave no other choice of members here either. For `d`, `s2` is on and beaten by `r2`, and `s3` is off. For `q`, `t2`
+/// is on, but `u1` is too, and only `t1` beats it, which is off.
+const IN_PART: [Derived; 4] = [
+    Derived {
+        theory: LARGE,
+        family: Family::Blocking,
+        literal: "d",
+        verdict: Verdict::Proved,
+        members: &[
+            "+D a", "+d a", "-D -b", "+d b", "-D -c", "+d c", "-D e", "-d e", "-D -d", "+d d",
+        ],
+    },
+    Derived {
+        theory: LARGE,
+        family: Family::Blocking,
+        literal: "q",
+        verdict: Verdict::Refuted,
+        members: &[
+            "+D a", "+d a", "-D -b", "+d b", "-D -c", "+d c", "-D f", "-d f", "-D q", "-d q",
+        ],
+    },
+    Derived {
+        theory: LARGE,
+        family: Family::Propagating,
+        literal: "d",
+        verdict: Verdict::Proved,
+        members: &[
+            "+D a", "+a a", "-D -b", "+a b", "-D -c", "+a c", "-D e", "-s e", "-D -d", "+a d",
+        ],
+    },
+    // Here `u1` is on by support, for which nothing has to be refuted.
+    Derived {
+        theory: LARGE,
+        family: Family::Propagating,
+        literal: "q",
+        verdict: Verdict::Refuted,
+        members: &[
+            "+D a", "+s a", "+s b", "+s c", "-D f", "-a f", "-D q", "-a q",
+        ],
+    },
+];
+
+/// The one rule for `p` rests on `p`, and no rule is for `-p`: nothing follows of the two but `-D p`, `-D -p` and `-d -p`.
+const OPEN_IN_PART: Open = Open {
+    theory: LARGE,
+    family: Family::Blocking,
+    literal: "p",
+    gap: &["+D p", "+d p", "-d p", "+D -p", "+d -p"],
+};
+
 /// The answer to a question, asked of an edition. What is counted belongs to a new ledger.
 fn counted_answer<L: Ledger>(
     rt: &impl Abort,
@@ -401,4 +459,16 @@ fn a_gap_is_what_matters_and_does_not_follow(rt: HostRuntime) {
     for row in OPEN.iter() {
         expect_open(&rt, rt.alloc(), row);
     }
+}
+
+#[test]
+fn no_member_is_idle_where_a_part_is_cut_out(rt: HostRuntime) {
+    for row in IN_PART.iter() {
+        expect_derived(&rt, rt.alloc(), row);
+    }
+}
+
+#[test]
+fn a_gap_of_a_part_is_one_of_the_whole(rt: HostRuntime) {
+    expect_open(&rt, rt.alloc(), &OPEN_IN_PART);
 }

@@ -122,6 +122,73 @@ const TEAM_STAGES: [Stage; 2] = [
     },
 ];
 
+/// Five rules for `p`, of which three are on and two of these are above the rule for `-p`.
+const FIVE: &str =
+    ">> a\nr1: c => p\nr2: a => p\nr3: c => p\nr4: a => p\nr5: a => p\ns: => -p\nr2 > s\nr5 > s\n";
+
+/// What is concluded where a rule for `p` is on that is above the one for `-p`.
+const P_WINS: [Concluded; 2] = [
+    (Family::Blocking, "+d a\n-d -a\n-d c\n-d -c\n+d p\n-d -p\n"),
+    (Family::Support, "+s a\n-s -a\n-s c\n-s -c\n+s p\n-s -p\n"),
+];
+
+/// What is concluded where a rule for `p` is on, and none that is above the one for `-p`.
+const P_TIES: [Concluded; 2] = [
+    (Family::Blocking, "+d a\n-d -a\n-d c\n-d -c\n-d p\n-d -p\n"),
+    (Family::Support, "+s a\n-s -a\n-s c\n-s -c\n+s p\n+s -p\n"),
+];
+
+/// What is concluded where every rule for `p` is off.
+const P_LOSES: [Concluded; 2] = [
+    (Family::Blocking, "+d a\n-d -a\n-d c\n-d -c\n-d p\n+d -p\n"),
+    (Family::Support, "+s a\n-s -a\n-s c\n-s -c\n-s p\n+s -p\n"),
+];
+
+/// Rules for `p` go and come, one by one: there are five, then two, five again and at last three. Those that rest on `a` are on, and
+/// those that rest on `c` are off.
+const FIVE_STAGES: [Stage; 10] = [
+    Stage {
+        edits: &[],
+        concluded: &P_WINS,
+    },
+    Stage {
+        edits: &["drop r2"],
+        concluded: &P_WINS,
+    },
+    Stage {
+        edits: &["drop r5"],
+        concluded: &P_TIES,
+    },
+    Stage {
+        edits: &["drop r4"],
+        concluded: &P_LOSES,
+    },
+    Stage {
+        edits: &["add r6: a => p"],
+        concluded: &P_TIES,
+    },
+    Stage {
+        edits: &["add r7: c => p"],
+        concluded: &P_TIES,
+    },
+    Stage {
+        edits: &["add r8: c => p"],
+        concluded: &P_TIES,
+    },
+    Stage {
+        edits: &["add r6 > s"],
+        concluded: &P_WINS,
+    },
+    Stage {
+        edits: &["drop r1"],
+        concluded: &P_WINS,
+    },
+    Stage {
+        edits: &["drop r6"],
+        concluded: &P_LOSES,
+    },
+];
+
 const PENGUIN_CONCLUDED: [Concluded; 1] = [(
     Family::Blocking,
     "+d bird\n-d -bird\n-d flies\n+d -flies\n+d penguin\n-d -penguin\n",
@@ -202,14 +269,20 @@ pub(crate) fn saturated<L: Ledger>(
     Draft::saturate(alloc, theory, steps).expect(rt, "room")
 }
 
-/// One stage after another, from the empty theory on.
-fn go_through<L: Ledger>(rt: &impl Abort, alloc: Global, stages: &[Stage], blank: Blank)
+/// One stage after another, from a theory on.
+fn go_through<L: Ledger>(
+    rt: &impl Abort,
+    alloc: Global,
+    theory: &Theory,
+    stages: &[Stage],
+    blank: Blank,
+)
     requires name { blank.name ≡ L.name }
     requires parts { blank.parts ≡ L.parts }
     requires some { 0 < blank.parts }
 {
     let mut steps = Steps::<L>::make(blank);
-    let mut draft = saturated(rt, alloc, &Theory::make(alloc), &mut steps);
+    let mut draft = saturated(rt, alloc, theory, &mut steps);
     for stage in stages {
         touch_all(rt, alloc, &mut draft, stage.edits, &mut steps);
         expect_draft(rt, alloc, &mut draft, stage.concluded);
@@ -217,17 +290,24 @@ fn go_through<L: Ledger>(rt: &impl Abort, alloc: Global, stages: &[Stage], blank
     drop(draft);
 }
 
-fn expect_stages(rt: &impl Abort, alloc: Global, stages: &[Stage]) {
-    go_through::<Brand>(rt, alloc, stages, Blank::new(1));
+fn expect_stages(rt: &impl Abort, alloc: Global, text: &str, stages: &[Stage]) {
+    let theory = theory_of(rt, alloc, text);
+    go_through::<Brand>(rt, alloc, &theory, stages, Blank::new(1));
+    drop(theory);
 }
 
 #[test]
 fn what_is_concluded_follows_each_edit(rt: HostRuntime) {
     let alloc = rt.alloc();
-    expect_stages(&rt, alloc, &AMBIGUOUS_STAGES);
-    expect_stages(&rt, alloc, &LOOP_STAGES);
-    expect_stages(&rt, alloc, &FACT_STAGES);
-    expect_stages(&rt, alloc, &TEAM_STAGES);
+    expect_stages(&rt, alloc, "", &AMBIGUOUS_STAGES);
+    expect_stages(&rt, alloc, "", &LOOP_STAGES);
+    expect_stages(&rt, alloc, "", &FACT_STAGES);
+    expect_stages(&rt, alloc, "", &TEAM_STAGES);
+}
+
+#[test]
+fn many_rules_for_a_literal_come_and_go(rt: HostRuntime) {
+    expect_stages(&rt, rt.alloc(), FIVE, &FIVE_STAGES);
 }
 
 /// Asks for a mark of a tagged literal, and that its opposite has none.
