@@ -1,6 +1,5 @@
 -- Lemmas on what a sink handed on.
 use Rattle.std.proofs.Common.{◌≡◌, ℕ, List, ◌++◌, Option, None, Some, Result, Ok, Err, OnOk, refl, ap, ◌∙◌, append_assoc}
-use Rattle.std.specs.Io.KnownBytes.{append_known}
 use Rattle.dl_io.specs.Streams.{IsFront, IsKnownFront}
 use Rattle.ddl.specs.Replies.{HandsOn}
 
