@@ -52,6 +52,20 @@ begins_drop line rest h = word_begins 100 (114 ∷ 111 ∷ 112 ∷ []) line rest
 not_both : (word : List ℕ) → word ≡ codes "add" → word ≡ codes "drop" → ⊥
 not_both word e f = let g : codes "add" ≡ codes "drop" = sym e ∙ f in cc
 
+pub behind_add : (line : List ℕ) → word_of line ≡ codes "add" → (e : Edit) → IsEditLine line e → Adds (past_word line) e
+behind_add line w e n =
+    elim n [
+      | inl a ↦ subst (λ (l : List ℕ). Adds l e) (sym (begins_add line a.0 a.1).1) a.2
+      | inr d ↦ absurd (not_both (word_of line) w (begins_drop line d.0 d.1).0)
+    ]
+
+pub behind_drop : (line : List ℕ) → word_of line ≡ codes "drop" → (e : Edit) → IsEditLine line e → Drops (past_word line) e
+behind_drop line w e n =
+    elim n [
+      | inl a ↦ absurd (not_both (word_of line) (begins_add line a.0 a.1).0 w)
+      | inr d ↦ subst (λ (l : List ℕ). Drops l e) (sym (begins_drop line d.0 d.1).1) d.2
+    ]
+
 -- a reader of the rest reads the whole line
 behind_reads : (M : List ℕ → Edit → Type 0) (line rest : List ℕ) → has_variables line ≡ has_variables rest
     → ((e : Edit) → M rest e → IsEditLine line e) → ((e : Edit) → IsEditLine line e → M rest e) → (r : Result Edit LineStop) → Reads M rest r → Reads IsEditLine line r
@@ -64,19 +78,13 @@ pub add_reads : (line : List ℕ) (r : Result Edit LineStop) → word_of line �
 add_reads line r w b h =
     let begins = word_found (codes "add") line w b in
     behind_reads Adds line (past_word line) (word_variables (codes "add") line (past_word line) refl begins) (λ e m. inl (past_word line, begins, m))
-    (λ e n. elim n [
-      | inl a ↦ subst (λ (l : List ℕ). Adds l e) (sym (begins_add line a.0 a.1).1) a.2
-      | inr d ↦ absurd (not_both (word_of line) w (begins_drop line d.0 d.1).0)
-    ]) r h
+    (behind_add line w) r h
 
 pub drop_reads : (line : List ℕ) (r : Result Edit LineStop) → word_of line ≡ codes "drop" → begins_with is_blank (past_word line) ≡ true → Reads Drops (past_word line) r → Reads IsEditLine line r
 drop_reads line r w b h =
     let begins = word_found (codes "drop") line w b in
     behind_reads Drops line (past_word line) (word_variables (codes "drop") line (past_word line) refl begins) (λ e m. inr (past_word line, begins, m))
-    (λ e n. elim n [
-      | inl a ↦ absurd (not_both (word_of line) (begins_add line a.0 a.1).0 w)
-      | inr d ↦ subst (λ (l : List ℕ). Drops l e) (sym (begins_drop line d.0 d.1).1) d.2
-    ]) r h
+    (behind_drop line w) r h
 
 pub no_word : (line : List ℕ) → (word_of line ≡ codes "add" → ⊥) → (word_of line ≡ codes "drop" → ⊥) → (e : Edit) → IsEditLine line e → ⊥
 no_word line a d e h = elim h [ inl x ↦ a (begins_add line x.0 x.1).0 | inr x ↦ d (begins_drop line x.0 x.1).0 ]

@@ -58,7 +58,7 @@ spelled_plain (t ∷ ts) line h =
 
 -- the statements of a file are one list
 
-says_one : (line : List ℕ) (s t : Statement) → Says line s → Says line t → t ≡ s
+pub says_one : (line : List ℕ) (s t : Statement) → Says line s → Says line t → t ≡ s
 says_one line s t h i =
     ap (λ (p : Statement × List Token). p.0) (some_is {A = Statement × List Token} (t, []) (s, []) (sym (statement_complete line t i) ∙ statement_complete line s h))
 
