@@ -1,6 +1,7 @@
 -- Histories one entry longer, and what a history keeps of those it begins with.
-use Rattle.std.proofs.Common.{◌≡◌, ℕ, zero, suc, ◌<◌, ◌≤◌, List, [], ◌∷◌, ◌++◌, All, refl, sym, ap, subst, ◌∙◌, append_assoc, append-nil, arith}
+use Rattle.std.proofs.Common.{◌≡◌, ℕ, zero, suc, ◌+◌, ◌<◌, ◌≤◌, List, [], ◌∷◌, ◌++◌, All, refl, sym, ap, subst, ◌∙◌, append_assoc, append-nil, arith}
 use Rattle.std.proofs.lemmas.List.Elements.{All-push}
+use Rattle.std.specs.List.{range_with_len}
 use Rattle.dl_turn.specs.History.{StartsWith}
 use Rattle.dl_theory.specs.Lists.{TheoryLists, IsWellFormed}
 use Rattle.dl_theory.proofs.WellFormed.{edit_keeps}
@@ -10,8 +11,8 @@ use Rattle.dl_calls.specs.declared.reply.Reply.{Reply}
 use Rattle.dl_calls.specs.declared.reply.Reply.TheVariants.{Edited, EditRefused}
 use Rattle.dl_calls.specs.declared.entry.Entry.{Entry}
 use Rattle.dl_calls.specs.Reasoner.{State, opening, IsStep}
-use Rattle.dl_calls.specs.Histories.{next, after, after_all, Runs, state_after, IsLegal}
-use Rattle.dl_calls.specs.Laws.{RepliesTellStates, EditionsStay, SeatsAreEnrolled, HasWellFormed, TheoriesStayWellFormed}
+use Rattle.dl_calls.specs.Histories.{next, after, after_all, Runs, state_after, IsLegal, enrolled_seats}
+use Rattle.dl_calls.specs.Laws.{RepliesTellStates, EditionsStay, SeatsAreEnrolled, EnrolmentsCountUp, LastEntryIsAStep, HasWellFormed, TheoriesStayWellFormed}
 
 pub replies_tell_states : RepliesTellStates
 replies_tell_states s end seat Enrol reply h = h.2
@@ -41,6 +42,16 @@ legal_more T history e h step = runs_more (opening T) history (e ∷ []) h (step
 
 pub state_more : (T : TheoryLists) (history : List Entry) (e : Entry) → state_after T (history ++ e ∷ []) ≡ after (state_after T history) e
 state_more T history e = after_more (opening T) history (e ∷ [])
+
+-- the last of entries that run is a step
+runs_last : (s : State) (first : List Entry) (e : Entry) → Runs s (first ++ e ∷ [])
+    → IsStep (after_all s first) e.seat e.call e.reply (after (after_all s first) e)
+runs_last s [] e h = h.0
+runs_last s (x ∷ first) e h = runs_last (after s x) first e h.1
+
+pub last_entry_is_a_step : LastEntryIsAStep
+last_entry_is_a_step T history e h =
+    subst (λ (s : State). IsStep (state_after T history) e.seat e.call e.reply s) (sym (state_more T history e)) (runs_last (opening T) history e h)
 
 -- editions
 
@@ -92,6 +103,31 @@ below s (e ∷ more) h (suc k) d l = below (after s e) more h.1 k d (omega arith
 
 pub seats_are_enrolled : SeatsAreEnrolled
 seats_are_enrolled T history h = below (opening T) history h
+
+-- the seats from the first count up to the last
+abbrev CountUp : ℕ → ℕ → List ℕ → Type 0
+CountUp first last seats = (n : ℕ) × (last ≡ first + n) × (seats ≡ range_with_len first n)
+
+abbrev entry : ℕ → Call → Reply → Entry
+entry seat call reply = record { seat = seat; call = call; reply = reply }
+
+step_enrols : (s : State) (seat last : ℕ) (call : Call) (reply : Reply) (more : List Entry) → IsStep s seat call reply (next s call reply)
+    → CountUp (next s call reply).count last (enrolled_seats more) → CountUp s.count last (enrolled_seats (entry seat call reply ∷ more))
+step_enrols s seat last Enrol reply more h c = (suc c.0, omega (arith, c.1), λ i. h.0 i ∷ c.2 i)
+step_enrols s seat last (Edit e) Edited more h c = c
+step_enrols s seat last (Edit e) (EditRefused x) more h c = c
+step_enrols s seat last Publish reply more h c = c
+step_enrols s seat last (Hold n) reply more h c = c
+step_enrols s seat last (Edit e) _ more h c = absurd h
+
+count_up : (s : State) (history : List Entry) → Runs s history → CountUp s.count (after_all s history).count (enrolled_seats history)
+count_up s [] h = (0, omega arith, refl)
+count_up s (e ∷ more) h = step_enrols s e.seat (after_all s (e ∷ more)).count e.call e.reply more h.0 (count_up (after s e) more h.1)
+
+pub enrolments_count_up : EnrolmentsCountUp
+enrolments_count_up T history h =
+    let c = count_up (opening T) history h in
+    c.2 ∙ ap (λ (n : ℕ). range_with_len 0 n) (omega (arith, c.1))
 
 -- theories
 

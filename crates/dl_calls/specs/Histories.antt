@@ -1,5 +1,5 @@
 -- Legal histories, and the state after one.
-use Rattle.std.specs.Prelude.{ℕ, ◌+◌, List, [], ◌∷◌, ◌++◌}
+use Rattle.std.specs.Prelude.{ℕ, ◌+◌, Bool, true, false, List, [], ◌∷◌, ◌++◌, map, filter}
 use Rattle.dl_turn.specs.History.{lines_of}
 use Rattle.dl_theory.specs.Lists.{TheoryLists}
 use Rattle.dl_theory.specs.Edits.{after_edit}
@@ -42,3 +42,13 @@ state_after T history = after_all (opening T) history
 -- the entries of a seat, in order
 abbrev pub entries_of : ℕ → List Entry → List Entry
 entries_of seat history = lines_of (λ e. e.seat) seat history
+
+abbrev pub is_enrol : Call → Bool
+is_enrol Enrol = true
+is_enrol (Edit e) = false
+is_enrol Publish = false
+is_enrol (Hold n) = false
+
+-- the seats of the enrolments, in order
+abbrev pub enrolled_seats : List Entry → List ℕ
+enrolled_seats history = map (λ e. e.seat) (filter (λ e. is_enrol e.call) history)

@@ -1,6 +1,6 @@
 //! Laws of entries and histories, each as the contract of a function that does nothing.
 
-ghost use Rattle.dl_calls.specs.Laws.{LinesTellEntries, JournalsTellHistories, RepliesTellStates, EditionsStay, SeatsAreEnrolled, TheoriesStayWellFormed};
+ghost use Rattle.dl_calls.specs.Laws.{LinesTellEntries, JournalsTellHistories, RepliesTellStates, EditionsStay, SeatsAreEnrolled, EnrolmentsCountUp, LastEntryIsAStep, TheoriesStayWellFormed};
 
 /// Two entries with one line of a journal are equal. It speaks of entries whose names are spelled as names and whose
 /// numbers have 64 bits; each entry that a program holds is such, by `entry_is_spelled`.
@@ -26,6 +26,16 @@ pub fn editions_stay()
 /// Each entry of a legal history is of an enrolled seat.
 pub fn seats_are_enrolled()
     ensures { SeatsAreEnrolled }
+{}
+
+/// The enrolments of a legal history are those of the seats from 0 on, each once, in order.
+pub fn enrolments_count_up()
+    ensures { EnrolmentsCountUp }
+{}
+
+/// The last entry of a legal history is a step of the state before it.
+pub fn last_entry_is_a_step()
+    ensures { LastEntryIsAStep }
 {}
 
 /// From a well-formed theory, the draft and each edition are well formed.

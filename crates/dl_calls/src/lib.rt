@@ -19,9 +19,9 @@ mod write;
 pub use call::Call;
 pub use entry::Entry;
 pub use laws::{
-    editions_stay, journals_tell_histories, lines_tell_entries, replies_tell_states,
-    seats_are_enrolled, theories_stay_well_formed,
+    editions_stay, enrolments_count_up, journals_tell_histories, last_entry_is_a_step,
+    lines_tell_entries, replies_tell_states, seats_are_enrolled, theories_stay_well_formed,
 };
 pub use reply::Reply;
 pub use spelled::entry_is_spelled;
-pub use write::write_entry;
+pub use write::{write_entry, write_reply};

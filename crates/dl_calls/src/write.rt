@@ -4,6 +4,7 @@ ghost use Rattle.std.specs.Prelude.{◌≡◌, ◌++◌, ◌∷◌, [], codes, d
 ghost use Rattle.dl_io.specs.Outside.{HasCause};
 ghost use Rattle.dl_io.specs.Streams.{WritesAll};
 ghost use Rattle.dl_print.specs.Text.{refusal_text};
+ghost use Rattle.dl_calls.specs.Laws.{LineTells};
 ghost use Rattle.dl_calls.specs.Text.{call_text, reply_text, unpublished_text, refused_text, entry_text};
 
 use crate::call::Call;
@@ -53,7 +54,8 @@ fn write_call<S: Sink>(sink: &mut S, call: &Call) -> Result<(), Failed>
     }
 }
 
-fn write_reply<S: Sink>(sink: &mut S, reply: &Reply) -> Result<(), Failed>
+/// Appends the words of a reply, with no LF, or a front of them where the sink fails.
+pub fn write_reply<S: Sink>(sink: &mut S, reply: &Reply) -> Result<(), Failed>
     ensures bytes { WritesAll (S.written sink.old) (S.written sink.new) result (reply_text reply.now) }
     ensures cause { HasCause (S.faults sink.old) (S.faults sink.new) result }
     ensures name { S.name sink.new ≡ S.name sink.old }
@@ -88,11 +90,13 @@ fn write_question<S: Sink>(sink: &mut S, seat: u64, call: &Call) -> Result<(), F
     write_call(sink, call)
 }
 
-/// Appends the line of an entry with its LF, or a front of it where the sink fails.
+/// Appends the line of an entry with its LF, or a front of it where the sink fails. No other entry that a program can hold has
+/// that line.
 pub fn write_entry<S: Sink>(sink: &mut S, entry: &Entry) -> Result<(), Failed>
     ensures bytes { WritesAll (S.written sink.old) (S.written sink.new) result (entry_text entry.now) }
     ensures cause { HasCause (S.faults sink.old) (S.faults sink.new) result }
     ensures name { S.name sink.new ≡ S.name sink.old }
+    ensures tells { LineTells entry.now }
 {
     write_question(sink, entry.seat, &entry.call)?;
     write_answer(sink, &entry.reply)
