@@ -1,4 +1,4 @@
-//! Tests of what needs no threads: literals, orders, streams, theories, marks, numbers, texts, certificates, drafts, editions, boards
+//! Tests of what needs no threads: literals, orders, streams, lines, theories, marks, numbers, texts, certificates, drafts, editions, boards
 //! and journals.
 //!
 //! They are apart from what they test, since a crate with tests is proved twice, with them and without. Each file is about one subject.
@@ -17,6 +17,8 @@ mod drafts;
 mod editions;
 #[cfg(test)]
 mod journals;
+#[cfg(test)]
+mod lines;
 #[cfg(test)]
 mod literals;
 #[cfg(test)]

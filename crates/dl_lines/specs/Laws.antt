@@ -1,0 +1,19 @@
+-- What holds of all lines and of all calls.
+use Rattle.std.specs.Prelude.{◌≡◌, ℕ, ◌<◌, ◌==◌, false, List, [], ◌++◌, length, All, Option, None}
+use Rattle.std.specs.List.{join_with_byte}
+use Rattle.dl_lines.specs.Lines.{raw_lines}
+use Rattle.dl_lines.specs.Reading.{Reading, unread, IsNext, Account}
+use Rattle.dl_lines.specs.declared.next.Next.{Next}
+
+-- There is at least one raw line, none has an LF, and with an LF between each two they are the bytes.
+abbrev pub LinesAreTheBytes : Type 0
+LinesAreTheBytes = (bytes : List ℕ) → (0 < length (raw_lines bytes)) × All (λ line. All (λ b. (b == 10) ≡ false) line) (raw_lines bytes) × (join_with_byte 10 (raw_lines bytes) ≡ bytes)
+
+-- Where nothing was read, nothing was answered.
+abbrev pub AccountsBegin : Type 0
+AccountsBegin = (rest : Option (List ℕ)) → Account [] rest [] unread
+
+-- One more call adds what it read and what it answered.
+abbrev pub AccountsGoOn : Type 0
+AccountsGoOn = (before now : Option (List ℕ)) (old new : Reading) (answer : Next) (taken : List ℕ) (lines : List (List ℕ))
+    → Account taken before lines old → old.ended ≡ None → (next : IsNext before now old new answer) → Account (taken ++ next.piece) now (lines ++ next.lines) new

@@ -1,0 +1,19 @@
+//! Laws of lines, each as the contract of a function that does nothing.
+
+ghost use Rattle.dl_lines.specs.Laws.{AccountsBegin, AccountsGoOn, LinesAreTheBytes};
+
+/// Every byte is in exactly one raw line or is an LF between two.
+pub fn lines_are_the_bytes()
+    ensures { LinesAreTheBytes }
+{}
+
+/// The account of a reader that was just made is empty.
+pub fn accounts_begin()
+    ensures { AccountsBegin }
+{}
+
+/// What was taken and answered by some calls, and what the next call takes and answers, is the account of them all. So by the end all
+/// lines of the source were answered, in order, and by another ending the lines that have their LF in what was taken.
+pub fn accounts_go_on()
+    ensures { AccountsGoOn }
+{}
