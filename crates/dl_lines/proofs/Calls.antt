@@ -1,10 +1,10 @@
 -- Lemmas on the parts of a call.
-use Rattle.std.proofs.Common.{◌≡◌, ◌≢◌, ℕ, ◌+◌, ◌≤◌, ◌<◌, ◌==◌, ◌⊎◌, Bool, true, false, List, [], ◌∷◌, ◌++◌, Option, None, Some, Err, length, take, drop, refl, sym, ap, subst, inl, inr, ◌∙◌, arith, append_assoc, append-nil, length-append, length-take-le}
+use Rattle.std.proofs.Common.{◌≡◌, ◌≢◌, ℕ, ◌+◌, ◌≤◌, ◌<◌, ◌==◌, ◌⊎◌, Bool, true, false, List, [], ◌∷◌, ◌++◌, Option, None, Some, Err, length, take, drop, refl, sym, ap, subst, inl, inr, ◌∙◌, arith, append_assoc, append-nil, length-append, length-take-le, take_at}
 use Rattle.std.specs.Io.KnownBytes.{prepend_known}
 use Rattle.std.proofs.lemmas.List.Elements.{All-nil, All-append}
 use Rattle.dl_lines.specs.Lines.{unless_empty, raw_lines, whole_lines, all_lines}
 use Rattle.dl_lines.specs.Reading.{Reading, Serves, MayEnd, IsAtLine, IsAnswer, IsNext, HasFault}
-use Rattle.dl_lines.specs.Steps.{HasNoLf, IsCut, Grows, HasReadFault, IsDropped, Took, Forgets, IsCutAnswer, CutsOff, IsLastAnswer, Ends}
+use Rattle.dl_lines.specs.Steps.{HasNoLf, IsCut, Grows, HasReadFault, EndsRightly, IsDropped, Took, Forgets, IsCutAnswer, CutsOff, IsLastAnswer, Ends}
 use Rattle.dl_lines.specs.declared.next.Ending.{Ending}
 use Rattle.dl_lines.specs.declared.next.Ending.TheVariants.{End, Limit, Fault}
 use Rattle.dl_lines.specs.declared.next.Next.{Next}
@@ -97,15 +97,15 @@ cut_serves old mid piece dropped len joined clear cut =
 at_line : (ended : Option Ending) → ended ≡ None → IsAtLine ended
 at_line ended e = subst IsAtLine (sym e) tt
 
-cut_answers : (mid new : Reading) (dropped : List ℕ) (len : ℕ) (long : Bool) (answer : Next) → IsDropped dropped long → len < length mid.ahead → new.ended ≡ None
-    → IsCutAnswer mid.ahead len long new.line answer → IsAnswer ((dropped ++ take len mid.ahead) ∷ []) new answer
-cut_answers mid new dropped len true Line is_dropped within going (short, fits, is) = absurd (cc)
-cut_answers mid new dropped len false Line is_dropped within going (short, fits, is) = (
+cut_answers : (mid new : Reading) (dropped : List ℕ) (len : ℕ) (long : Bool) (answer : Next) → IsDropped dropped long → len < length mid.ahead → new.ended ≡ None → new.line ≡ take len mid.ahead
+    → IsCutAnswer len long answer → IsAnswer ((dropped ++ take len mid.ahead) ∷ []) new answer
+cut_answers mid new dropped len true Line is_dropped within going is (short, fits) = absurd (cc)
+cut_answers mid new dropped len false Line is_dropped within going is (short, fits) = (
   ap (λ (l : List ℕ). l ∷ []) (ap (λ l. l ++ take len mid.ahead) is_dropped ∙ sym is),
   omega (arith, ap length is, length-take-le len mid.ahead (omega arith)),
   at_line new.ended going,
 )
-cut_answers mid new dropped len long Long is_dropped within going cause = (
+cut_answers mid new dropped len long Long is_dropped within going is cause = (
   dropped ++ take len mid.ahead,
   refl,
   drops_more dropped (take len mid.ahead) long is_dropped (past cause),
@@ -115,10 +115,11 @@ cut_answers mid new dropped len long Long is_dropped within going cause = (
     past : (long ≡ true) ⊎ (LONGEST_LINE < len) → (long ≡ true) ⊎ (LONGEST_LINE < length (take len mid.ahead))
     past (inl e) = inl e
     past (inr more) = inr (omega (arith, more, length-take-le len mid.ahead (omega arith)))
-cut_answers mid new dropped len long (Over ending) is_dropped within going never = absurd never
+cut_answers mid new dropped len long (Over ending) is_dropped within going is never = absurd never
 
-pub took_cut : (before now : Option (List ℕ)) (old mid new : Reading) (long : Bool) (len : ℕ) (answer : Next) → Took before now old mid long → IsCut mid.ahead len → CutsOff mid new len long answer → IsNext before now old new answer
-took_cut before now old mid new long len answer took cut off =
+pub took_cut : (before now : Option (List ℕ)) (old mid new : Reading) (long : Bool) (len : ℕ) (answer : Next) → Took before now old mid long → IsCut mid.ahead len → CutsOff mid new len
+    → IsCutAnswer len long answer → IsNext before now old new answer
+took_cut before now old mid new long len answer took cut off is =
     let going : new.ended ≡ None = off.ended ∙ took.going in
     record {
       piece = took.piece;
@@ -129,14 +130,9 @@ took_cut before now old mid new long len answer took cut off =
       waits = took.waits;
       serves = subst (λ (ended : Option Ending). Serves (old.ahead ++ took.piece) ((took.dropped ++ take len mid.ahead) ∷ []) new.ahead ended) (sym going)
           (cut_serves old mid took.piece took.dropped len took.joined took.clear cut ∙ ap (λ (l : List ℕ). (took.dropped ++ take len mid.ahead) ∷ raw_lines l) (sym off.ahead));
-      answers = cut_answers mid new took.dropped len long answer took.is_dropped cut.within going off.answers;
+      answers = cut_answers mid new took.dropped len long answer took.is_dropped cut.within going off.line is;
       may_end = subst (λ (ended : Option Ending). MayEnd now new.count ended) (sym going) tt;
     }
-
-pub fault_cut : (before now : ℕ) (ahead line : List ℕ) (len : ℕ) (long : Bool) (answer : Next) → IsCutAnswer ahead len long line answer → now ≡ before → HasFault before now answer
-fault_cut before now ahead line len long Line is same = same
-fault_cut before now ahead line len long Long is same = same
-fault_cut before now ahead line len long (Over ending) never same = absurd never
 
 -- the line that is answered as the lines end, or none
 abbrev last_lines : List ℕ → Next → List (List ℕ)
@@ -211,9 +207,29 @@ took_end before now old mid new ending long answer took clear fits may_end ends 
           (subst (λ (count : ℕ). MayEnd now count (Some ending)) (sym ends.count) may_end);
     }
 
-pub fault_end : (before now : ℕ) (ahead line : List ℕ) (ending : Ending) (long : Bool) (answer : Next) → HasReadFault before now (Err ending) → IsLastAnswer ahead ending long line answer → HasFault before now answer
-fault_end before now ahead line ending long Line fault is = subst (λ (e : Ending). HasReadFault before now (Err e)) is.0 fault
-fault_end before now ahead line ending long Long fault (at, is) = subst (λ (e : Ending). HasReadFault before now (Err e)) at fault
-fault_end before now ahead line ending long (Over End) fault (same, none) = subst (λ (e : Ending). HasReadFault before now (Err e)) (sym same) fault
-fault_end before now ahead line ending long (Over Limit) fault (same, none) = subst (λ (e : Ending). HasReadFault before now (Err e)) (sym same) fault
-fault_end before now ahead line ending long (Over Fault) fault (same, none) = subst (λ (e : Ending). HasReadFault before now (Err e)) (sym same) fault
+-- The bytes that were ahead before a read have no LF.
+pub round_held : (mid now : Option (List ℕ)) (a b c : Reading) (long now_long : Bool) (held : ℕ) → HasNoLf a.ahead → Forgets a b long now_long → Grows mid now b c → held ≡ length b.ahead → HasNoLf (take held c.ahead)
+round_held mid now a b c long now_long held clear forgets grows count =
+    subst HasNoLf (sym (ap (take held) grows.ahead ∙ take_at b.ahead grows.piece held (sym count))) (forget_clear a b long now_long clear forgets)
+
+-- A round of the loop forgets what is too long and reads once. Either the lines end ..
+pub round_ends : (before mid now : Option (List ℕ)) (old a b c new : Reading) (long now_long : Bool) (ending : Ending) (answer : Next) → HasNoLf old.ahead → Took before mid old a long → HasNoLf a.ahead
+    → Forgets a b long now_long → Grows mid now b c → EndsRightly mid now b c (Err ending) → Ends c new ending now_long answer → IsNext before now old new answer
+round_ends before mid now old a b c new long now_long ending answer clear_old took clear forgets grows rightly ends =
+    took_end before now old c new ending now_long answer
+    (took_more before mid now old b c now_long clear_old (took_forget before mid old a b long now_long clear took forgets) grows)
+    (subst HasNoLf (sym rightly.2) (forget_clear a b long now_long clear forgets))
+    (subst (λ (l : List ℕ). length l ≤ LONGEST_LINE) (sym rightly.2) (forget_short a b long now_long forgets))
+    rightly.3 ends
+
+-- .. or an LF has come ..
+pub round_cuts : (before mid now : Option (List ℕ)) (old a b c new : Reading) (long now_long : Bool) (len : ℕ) (answer : Next) → HasNoLf old.ahead → Took before mid old a long → HasNoLf a.ahead
+    → Forgets a b long now_long → Grows mid now b c → IsCut c.ahead len → CutsOff c new len → IsCutAnswer len now_long answer → IsNext before now old new answer
+round_cuts before mid now old a b c new long now_long len answer clear_old took clear forgets grows cut off is =
+    took_cut before now old c new now_long len answer (took_more before mid now old b c now_long clear_old (took_forget before mid old a b long now_long clear took forgets) grows) cut off is
+
+-- .. or there is more to read.
+pub round_goes_on : (before mid now : Option (List ℕ)) (old a b c : Reading) (long now_long : Bool) → HasNoLf old.ahead → Took before mid old a long → HasNoLf a.ahead
+    → Forgets a b long now_long → Grows mid now b c → Took before now old c now_long
+round_goes_on before mid now old a b c long now_long clear_old took clear forgets grows =
+    took_more before mid now old b c now_long clear_old (took_forget before mid old a b long now_long clear took forgets) grows

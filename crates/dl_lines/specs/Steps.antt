@@ -74,19 +74,19 @@ abbrev pub Forgets : Reading → Reading → Bool → Bool → Type 0
 Forgets old new long false = (long ≡ false) × (new ≡ old) × (length old.ahead ≤ LONGEST_LINE)
 Forgets old new long true = ((long ≡ true) ⊎ (LONGEST_LINE < length old.ahead)) × (new ≡ record old { ahead = [] })
 
--- which answer a line of this length is, some of which was forgotten or all of which stands ahead
-abbrev pub IsCutAnswer : List ℕ → ℕ → Bool → List ℕ → Next → Type 0
-IsCutAnswer ahead len long line Line = (long ≡ false) × (len ≤ LONGEST_LINE) × (line ≡ take len ahead)
-IsCutAnswer ahead len long line Long = (long ≡ true) ⊎ (LONGEST_LINE < len)
-IsCutAnswer ahead len long line (Over ending) = ⊥
-
--- a line of this length and its LF are gone
-pub record CutsOff (old new : Reading) (len : ℕ) (long : Bool) (answer : Next) : Type 0 where
+-- a line of this length and its LF are gone from what is ahead
+pub record CutsOff (old new : Reading) (len : ℕ) : Type 0 where
+  pub line : new.line ≡ take len old.ahead
   pub ahead : new.ahead ≡ drop (len + 1) old.ahead
   pub count : new.count ≡ old.count
   pub within : new.count ≤ MOST_BYTES
   pub ended : new.ended ≡ old.ended
-  pub answers : IsCutAnswer old.ahead len long new.line answer
+
+-- which answer a line is, by the length of what is ahead of it and by whether some of it was dropped
+abbrev pub IsCutAnswer : ℕ → Bool → Next → Type 0
+IsCutAnswer len long Line = (long ≡ false) × (len ≤ LONGEST_LINE)
+IsCutAnswer len long Long = (long ≡ true) ⊎ (LONGEST_LINE < len)
+IsCutAnswer len long (Over ending) = ⊥
 
 -- which answer the end of the lines is: a line without LF is one only at the end of the input
 abbrev pub IsLastAnswer : List ℕ → Ending → Bool → List ℕ → Next → Type 0

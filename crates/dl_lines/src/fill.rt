@@ -24,9 +24,10 @@ pub fn move_to_front(room: &mut [u8], start: usize, end: usize)
     requires within { end ≤ length room.old }
     ensures { take (end - start) room.new ≡ slice_range room.old start end }
 {
-    if start > 0 {
-        room.copy_within(start..end, 0);
+    if start == 0 {
+        return;
     }
+    room.copy_within(start..end, 0);
 }
 
 /// One read of at most so many bytes, behind those that are held.

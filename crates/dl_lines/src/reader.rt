@@ -2,7 +2,7 @@
 
 ghost use Rattle.std.specs.Prelude.{◌≡◌, ◌+◌, ◌<◌, ◌≤◌, IfOk, IfSome, MatchOption, None, length, take};
 ghost use Rattle.dl_lines.specs.Reading.{HasFault, IsNext, IsOver, unread};
-ghost use Rattle.dl_lines.specs.Steps.{CutsOff, Ends, EndsRightly, Forgets, Grows, HasNoLf, HasReadFault, IsFound};
+ghost use Rattle.dl_lines.specs.Steps.{CutsOff, Ends, EndsRightly, Forgets, Grows, HasNoLf, HasReadFault, IsCutAnswer, IsFound};
 
 use crate::fill::{find_lf, move_to_front, read_behind};
 use crate::next::{Ending, Next};
@@ -179,10 +179,11 @@ impl LineReader {
         }
     }
 
-    // Takes a line and its LF off what is ahead.
+    // Takes a line and its LF off what is ahead. Some bytes of a long line were dropped before.
     fn cut(&mut self, len: usize, long: bool) -> Next
         requires { len < length self.old.ahead }
-        ensures { CutsOff self.old self.new len long result }
+        ensures off { CutsOff self.old self.new len }
+        ensures answers { IsCutAnswer len long result }
     {
         self.line_start = self.next;
         self.line_end = self.next + len;

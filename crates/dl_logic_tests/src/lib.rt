@@ -1,5 +1,5 @@
-//! Tests of what needs no threads: literals, orders, streams, lines, theories, marks, numbers, texts, certificates, drafts, editions, boards
-//! and journals.
+//! Tests of what needs no threads: literals, orders, streams, lines, theories, marks, numbers, texts, certificates, drafts, editions,
+//! boards and journals.
 //!
 //! They are apart from what they test, since a crate with tests is proved twice, with them and without. Each file is about one subject.
 //! `texts` reads what the others need from text, and `editions` compares what editions say.
