@@ -1,6 +1,6 @@
 -- The account of a reader: the lines that its calls have answered are those of the bytes that were taken.
-use Rattle.std.proofs.Common.{◌≡◌, ℕ, ◌+◌, List, [], ◌∷◌, ◌++◌, Option, None, Some, length, refl, sym, ap, subst, ◌∙◌, arith, append_assoc, length-append}
-use Rattle.dl_lines.specs.Lines.{raw_lines, whole_lines, all_lines}
+use Rattle.std.proofs.Common.{◌≡◌, ℕ, List, [], ◌++◌, Option, None, Some, refl, sym, ap, subst, ◌∙◌, arith, append_assoc, length-append}
+use Rattle.dl_lines.specs.Lines.{raw_lines}
 use Rattle.dl_lines.specs.Reading.{Reading, unread, Serves, IsNext, Account}
 use Rattle.dl_lines.specs.declared.next.Ending.{Ending}
 use Rattle.dl_lines.specs.declared.next.Ending.TheVariants.{End, Limit, Fault}

@@ -1,10 +1,10 @@
 -- Lemmas on the parts of a call.
-use Rattle.std.proofs.Common.{◌≡◌, ◌≢◌, ℕ, ◌+◌, ◌≤◌, ◌<◌, ◌==◌, ◌⊎◌, Bool, true, false, List, [], ◌∷◌, ◌++◌, Option, None, Some, Err, length, take, drop, refl, sym, ap, subst, inl, inr, ◌∙◌, arith, append_assoc, append-nil, length-append, length-take-le, take_at}
+use Rattle.std.proofs.Common.{◌≡◌, ℕ, ◌+◌, ◌≤◌, ◌<◌, ◌==◌, ◌⊎◌, Bool, true, false, List, [], ◌∷◌, ◌++◌, Option, None, Some, Err, length, take, drop, refl, sym, ap, subst, inl, inr, ◌∙◌, arith, append_assoc, append-nil, length-append, length-take-le, take_at}
 use Rattle.std.specs.Io.KnownBytes.{prepend_known}
 use Rattle.std.proofs.lemmas.List.Elements.{All-nil, All-append}
-use Rattle.dl_lines.specs.Lines.{unless_empty, raw_lines, whole_lines, all_lines}
-use Rattle.dl_lines.specs.Reading.{Reading, Serves, MayEnd, IsAtLine, IsAnswer, IsNext, HasFault}
-use Rattle.dl_lines.specs.Steps.{HasNoLf, IsCut, Grows, HasReadFault, EndsRightly, IsDropped, Took, Forgets, IsCutAnswer, CutsOff, IsLastAnswer, Ends}
+use Rattle.dl_lines.specs.Lines.{unless_empty, raw_lines, all_lines}
+use Rattle.dl_lines.specs.Reading.{Reading, Serves, MayEnd, IsAtLine, IsAnswer, IsNext}
+use Rattle.dl_lines.specs.Steps.{HasNoLf, IsCut, Grows, EndsRightly, IsDropped, Took, Forgets, IsCutAnswer, CutsOff, IsLastAnswer, Ends}
 use Rattle.dl_lines.specs.declared.next.Ending.{Ending}
 use Rattle.dl_lines.specs.declared.next.Ending.TheVariants.{End, Limit, Fault}
 use Rattle.dl_lines.specs.declared.next.Next.{Next}

@@ -1,11 +1,11 @@
 -- Lemmas on the lines of some bytes.
-use Rattle.std.proofs.Common.{◌≡◌, ℕ, ◌+◌, ◌<◌, ◌==◌, Bool, true, false, List, [], ◌∷◌, ◌++◌, length, take, drop, refl, sym, ap, subst, ◌∙◌, arith, length-append}
+use Rattle.std.proofs.Common.{◌≡◌, ℕ, ◌<◌, ◌==◌, Bool, true, false, List, [], ◌∷◌, ◌++◌, length, refl, sym, ap, subst, ◌∙◌, arith, length-append}
 use Rattle.std.specs.Prelude.{All}
 use Rattle.std.specs.List.{slice_split, onto_first, join_with_byte}
 use Rattle.std.proofs.lemmas.List.Elements.{All-nil, All-cons, All-head, All-tail}
 use Rattle.std.proofs.lemmas.List.Splits.{slice_split-cons_yes, slice_split-cons_no, slice_split_none, slice_split_at, length-slice_split, join_with_byte-slice_split}
 use Rattle.dl_lines.specs.Lines.{but_last, but_empty_end, unless_empty, raw_lines, whole_lines, all_lines}
-use Rattle.dl_lines.specs.Steps.{HasNoLf, IsCut}
+use Rattle.dl_lines.specs.Steps.{HasNoLf}
 
 abbrev is_lf : ℕ → Bool
 is_lf b = b == 10

@@ -1,5 +1,5 @@
 -- Where the first LF of some bytes stands.
-use Rattle.std.proofs.Common.{◌≡◌, ℕ, suc, ◌+◌, ◌≤◌, ◌<◌, ◌==◌, Bool, true, false, List, [], ◌∷◌, ◌++◌, length, take, drop, get_or, refl, sym, ap, subst, ◌∙◌, arith, add-one, eqb-true, length-drop, length-take-le, take-append-drop, take-add, get_or-take, get_or-drop, drop-cons}
+use Rattle.std.proofs.Common.{◌≡◌, ℕ, suc, ◌+◌, ◌≤◌, ◌<◌, ◌==◌, Bool, true, false, List, ◌∷◌, ◌++◌, length, take, drop, get_or, refl, sym, ap, subst, ◌∙◌, arith, add-one, eqb-true, length-drop, length-take-le, take-append-drop, take-add, get_or-take, get_or-drop, drop-cons}
 use Rattle.std.proofs.lemmas.List.Elements.{All-from_get_or, All-append}
 use Rattle.dl_lines.specs.Steps.{HasNoLf, IsCut}
 
@@ -24,8 +24,8 @@ pub found_some : (bytes hay : List ℕ) (from len : ℕ) → from ≤ length byt
 found_some bytes hay from len inside is within before at clear =
     let there : from + len < length bytes = omega (arith, ap length is, length-drop from bytes) in
     let between : HasNoLf (take len hay) = clear_from (take len hay) (λ k lt.
-        let low : k < len = omega (arith, length-take-le len hay (omega arith)) in
-        subst (λ (b : ℕ). ¬ ((b == 10) ≡ true)) (sym (get_or-take len hay k 0 low)) (before k (omega arith) low)) in
+    let low : k < len = omega (arith, length-take-le len hay (omega arith)) in
+    subst (λ (b : ℕ). ¬ ((b == 10) ≡ true)) (sym (get_or-take len hay k 0 low)) (before k (omega arith) low)) in
     let lf : get_or bytes (from + len) 0 ≡ 10 = sym (get_or-drop from bytes len 0) ∙ ap (λ (l : List ℕ). get_or l len 0) (sym is) ∙ eqb-true (get_or hay len 0) 10 at in
     record {
       front = subst HasNoLf (sym (take-add from len bytes))

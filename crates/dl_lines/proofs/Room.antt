@@ -1,5 +1,5 @@
 -- Bytes that are moved and put within a room.
-use Rattle.std.proofs.Common.{◌≡◌, ℕ, ◌+◌, ◌-◌, ◌≤◌, ◌<◌, List, ◌++◌, Option, Result, Ok, Err, IfOk, length, take, drop, sym, ap, subst, ◌∙◌, arith, length-drop, length-take-le, take_at, drop-drop}
+use Rattle.std.proofs.Common.{◌≡◌, ℕ, ◌+◌, ◌-◌, ◌≤◌, ◌<◌, List, ◌++◌, Option, Result, Ok, Err, IfOk, length, take, drop, sym, ap, ◌∙◌, arith, length-drop, length-take-le, take_at, drop-drop}
 use Rattle.std.proofs.Math.Seq.{paste, take-append-add, take-append-le, take-paste}
 use Rattle.std.proofs.lemmas.List.{drop-take}
 use Rattle.std.specs.Io.{ReadsAtMost}

@@ -1,4 +1,4 @@
-use Rattle.std.proofs.Common.{◌≡◌, ◌+◌, ◌-◌, drop, length, take, arith, length-drop, length-take-le, ◌∙◌}
+use Rattle.std.proofs.Common.{◌≡◌, ◌+◌, ◌-◌, drop, length, arith, length-drop, length-take-le, ◌∙◌}
 use Rattle.dl_lines.proofs.Room.{behind}
 use Rattle.dl_lines.proofs.fill.read_behind.Goals as goal
 

@@ -20,15 +20,15 @@ returns-in-Err-clause-next g c =
 pub cut-requires : goal.cut-requires
 cut-requires g c =
     let cut : IsCut c.read_more.new.self.ahead c.in-Some.len = c.in-Some.ensures
-        (round_held (g.S.Source.rest c.reading.source) (g.S.Source.rest c.read_more.new.source) c.reading.self c.forget-long.new.self c.read_more.new.self
-        c.reading.long c.forget-long.result c.held-held.result c.reading.invariant.clear c.forget-long.ensures c.read_more.ensures.grows c.held-held.ensures) in
+    (round_held (g.S.Source.rest c.reading.source) (g.S.Source.rest c.read_more.new.source) c.reading.self c.forget-long.new.self c.read_more.new.self
+    c.reading.long c.forget-long.result c.held-held.result c.reading.invariant.clear c.forget-long.ensures c.read_more.ensures.grows c.held-held.ensures) in
     cut.within
 
 pub returns-in-Some-clause-next : goal.returns-in-Some-clause-next
 returns-in-Some-clause-next g c =
     let cut : IsCut c.read_more.new.self.ahead c.in-Some.len = c.in-Some.ensures
-        (round_held (g.S.Source.rest c.reading.source) (g.S.Source.rest c.read_more.new.source) c.reading.self c.forget-long.new.self c.read_more.new.self
-        c.reading.long c.forget-long.result c.held-held.result c.reading.invariant.clear c.forget-long.ensures c.read_more.ensures.grows c.held-held.ensures) in
+    (round_held (g.S.Source.rest c.reading.source) (g.S.Source.rest c.read_more.new.source) c.reading.self c.forget-long.new.self c.read_more.new.self
+    c.reading.long c.forget-long.result c.held-held.result c.reading.invariant.clear c.forget-long.ensures c.read_more.ensures.grows c.held-held.ensures) in
     round_cuts (g.S.Source.rest c.args.source.now) (g.S.Source.rest c.reading.source) (g.S.Source.rest c.read_more.new.source)
     c.args.self.now c.reading.self c.forget-long.new.self c.read_more.new.self c.cut.new.self c.reading.long c.forget-long.result c.in-Some.len c.cut.result
     c.requires.clear c.reading.invariant.took c.reading.invariant.clear c.forget-long.ensures c.read_more.ensures.grows cut c.cut.ensures.off c.cut.ensures.answers
