@@ -177,6 +177,7 @@ fn what_was_read_whole_comes_before_a_fault(rt: HostRuntime) {
 }
 
 /// A source that never ends and has no LF. It counts what it gave.
+#[derive(Drop)]
 struct Endless {
     given: usize,
 }
