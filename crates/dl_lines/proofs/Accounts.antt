@@ -1,6 +1,6 @@
 -- The account of a reader: the lines that its calls have answered are those of the bytes that were taken.
 use Rattle.std.proofs.Common.{◌≡◌, ℕ, List, [], ◌++◌, Option, None, Some, refl, sym, ap, subst, ◌∙◌, arith, append_assoc, length-append}
-use Rattle.dl_lines.specs.Lines.{raw_lines}
+use Rattle.dl_lines.specs.Lines.{raw_lines, whole_lines, all_lines}
 use Rattle.dl_lines.specs.Reading.{Reading, unread, Serves, IsNext, Account}
 use Rattle.dl_lines.specs.declared.next.Ending.{Ending}
 use Rattle.dl_lines.specs.declared.next.Ending.TheVariants.{End, Limit, Fault}
@@ -21,13 +21,23 @@ begins rest = record {
   may_end = tt;
 }
 
+-- what an account says while the lines have not ended
+known_lines : (taken : List ℕ) (rest : Option (List ℕ)) (lines : List (List ℕ)) (reading : Reading) → Account taken rest lines reading → reading.ended ≡ None → raw_lines taken ≡ lines ++ raw_lines reading.ahead
+known_lines taken rest lines reading account going = subst (λ (ended : Option Ending). Serves taken lines reading.ahead ended) going account.serves
+
 pub goes_on : (before now : Option (List ℕ)) (old new : Reading) (answer : Next) (taken : List ℕ) (lines : List (List ℕ))
     → Account taken before lines old → old.ended ≡ None → (next : IsNext before now old new answer) → Account (taken ++ next.piece) now (lines ++ next.lines) new
 goes_on before now old new answer taken lines account going next =
-    let known : raw_lines taken ≡ lines ++ raw_lines old.ahead = subst (λ (ended : Option Ending). Serves taken lines old.ahead ended) going account.serves in
+    let known = known_lines taken before lines old account going in
     record {
       count = omega (arith, account.count, next.count, length-append taken next.piece);
       within = omega (arith, account.count, next.count, next.within, length-append taken next.piece);
       serves = serves_more (taken ++ next.piece) (old.ahead ++ next.piece) new.ahead lines next.lines new.ended (raw_more taken next.piece old.ahead lines known) next.serves;
       may_end = next.may_end;
     }
+
+pub come_first : (taken more : List ℕ) (rest : Option (List ℕ)) (lines : List (List ℕ)) (reading : Reading) → Account taken rest lines reading → reading.ended ≡ None
+    → (all_lines (taken ++ more) ≡ lines ++ all_lines (reading.ahead ++ more)) × (whole_lines (taken ++ more) ≡ lines ++ whole_lines (reading.ahead ++ more))
+come_first taken more rest lines reading account going =
+    let known = raw_more taken more reading.ahead lines (known_lines taken rest lines reading account going) in
+    (all_more (taken ++ more) (reading.ahead ++ more) lines known, whole_more (taken ++ more) (reading.ahead ++ more) lines known)

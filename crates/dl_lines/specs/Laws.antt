@@ -1,7 +1,7 @@
 -- What holds of all lines and of all calls.
 use Rattle.std.specs.Prelude.{◌≡◌, ℕ, ◌<◌, ◌==◌, false, List, [], ◌++◌, length, All, Option, None}
 use Rattle.std.specs.List.{join_with_byte}
-use Rattle.dl_lines.specs.Lines.{raw_lines}
+use Rattle.dl_lines.specs.Lines.{raw_lines, whole_lines, all_lines}
 use Rattle.dl_lines.specs.Reading.{Reading, unread, IsNext, Account}
 use Rattle.dl_lines.specs.declared.next.Next.{Next}
 
@@ -17,3 +17,8 @@ AccountsBegin = (rest : Option (List ℕ)) → Account [] rest [] unread
 abbrev pub AccountsGoOn : Type 0
 AccountsGoOn = (before now : Option (List ℕ)) (old new : Reading) (answer : Next) (taken : List ℕ) (lines : List (List ℕ))
     → Account taken before lines old → old.ended ≡ None → (next : IsNext before now old new answer) → Account (taken ++ next.piece) now (lines ++ next.lines) new
+
+-- Whatever bytes follow, the lines so far come first among the lines of all.
+abbrev pub LinesComeFirst : Type 0
+LinesComeFirst = (taken more : List ℕ) (rest : Option (List ℕ)) (lines : List (List ℕ)) (reading : Reading) → Account taken rest lines reading → reading.ended ≡ None
+    → (all_lines (taken ++ more) ≡ lines ++ all_lines (reading.ahead ++ more)) × (whole_lines (taken ++ more) ≡ lines ++ whole_lines (reading.ahead ++ more))

@@ -10,9 +10,9 @@ use Rattle.dl_lines.specs.declared.next.Next.TheVariants.{Line, Long, Over}
 use Rattle.dl_lines.specs.declared.reader.TheConstants.{LONGEST_LINE, MOST_BYTES}
 
 pub record Reading : Type 0 where
-  -- the bytes that were read and are in no answer yet; none where the lines have ended
+  -- the bytes that were read and are in no answer yet
   pub ahead : List ℕ
-  -- the line that was answered last
+  -- the line, where the last answer was one
   pub line : List ℕ
   -- how many bytes were read in all
   pub count : ℕ

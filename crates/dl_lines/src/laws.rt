@@ -1,6 +1,6 @@
 //! Laws of lines, each as the contract of a function that does nothing.
 
-ghost use Rattle.dl_lines.specs.Laws.{AccountsBegin, AccountsGoOn, LinesAreTheBytes};
+ghost use Rattle.dl_lines.specs.Laws.{AccountsBegin, AccountsGoOn, LinesAreTheBytes, LinesComeFirst};
 
 /// Every byte is in exactly one raw line or is an LF between two.
 pub fn lines_are_the_bytes()
@@ -16,4 +16,9 @@ pub fn accounts_begin()
 /// lines of the source were answered, in order, and by another ending the lines that have their LF in what was taken.
 pub fn accounts_go_on()
     ensures { AccountsGoOn }
+{}
+
+/// What was answered before the lines have ended comes first among the lines of the whole input, whatever follows.
+pub fn lines_come_first()
+    ensures { LinesComeFirst }
 {}

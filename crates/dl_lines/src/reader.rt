@@ -14,7 +14,7 @@ use std::marker::Model;
 /// A line has at most so many bytes, its LF not counted. A longer one is answered as such.
 pub const LONGEST_LINE: usize = 65536;
 
-/// So many bytes are read of a source at most.
+/// So many bytes are read of a source at most: 2^30.
 pub const MOST_BYTES: usize = 1073741824;
 
 // So many bytes are asked for at once.
@@ -80,8 +80,8 @@ impl LineReader {
 
     /// The next line of the source, or how its lines ended; then a further call answers so again and reads nothing.
     ///
-    /// A line is without its LF, and with a CR before it. Where the input has ended, what stands behind the last LF is a line too, unless it
-    /// is empty. The source is read only while no whole line is held.
+    /// A line is without its LF; a CR before it is kept. Where the input has ended, what stands behind the last LF is a line too, unless it
+    /// is empty. The source is read only while no whole line is ahead.
     pub fn next_line<S: Source>(&mut self, source: &mut S) -> Next
         ensures next { self.old.ended ≡ None → IsNext (S.rest source.old) (S.rest source.new) self.old self.new result }
         ensures cause { self.old.ended ≡ None → HasFault (S.faults source.old) (S.faults source.new) result }
@@ -97,7 +97,7 @@ impl LineReader {
         }
     }
 
-    /// The line that was answered last, until the next call.
+    /// The line, where the last answer was one.
     pub fn line(&self) -> &[u8]
         ensures { result.now ≡ self.now.line }
     {

@@ -93,8 +93,18 @@ fn then_y(rt: &impl Abort, alloc: Global, bytes: &[u8], long: bool) {
 #[test]
 fn the_longest_line_is_a_line(rt: HostRuntime) {
     let alloc = rt.alloc();
-    then_y(&rt, alloc, xs(&rt, alloc, 65536, b"\ny\n").as_slice(), false);
-    then_y(&rt, alloc, xs(&rt, alloc, 65535, b"\r\ny").as_slice(), false);
+    then_y(
+        &rt,
+        alloc,
+        xs(&rt, alloc, 65536, b"\ny\n").as_slice(),
+        false,
+    );
+    then_y(
+        &rt,
+        alloc,
+        xs(&rt, alloc, 65535, b"\r\ny").as_slice(),
+        false,
+    );
 }
 
 #[test]
@@ -107,8 +117,18 @@ fn one_byte_more_is_too_long_and_a_cr_counts(rt: HostRuntime) {
 #[test]
 fn a_line_over_several_reads_is_too_long_once(rt: HostRuntime) {
     let alloc = rt.alloc();
-    then_y(&rt, alloc, xs(&rt, alloc, 131071, b"\ny\n").as_slice(), true);
-    then_y(&rt, alloc, xs(&rt, alloc, 131072, b"\ny\n").as_slice(), true);
+    then_y(
+        &rt,
+        alloc,
+        xs(&rt, alloc, 131071, b"\ny\n").as_slice(),
+        true,
+    );
+    then_y(
+        &rt,
+        alloc,
+        xs(&rt, alloc, 131072, b"\ny\n").as_slice(),
+        true,
+    );
     then_y(&rt, alloc, xs(&rt, alloc, 300000, b"\ny").as_slice(), true);
 }
 
@@ -141,7 +161,9 @@ fn lines_lie_across_reads(rt: HostRuntime) {
     let alloc = rt.alloc();
     let mut bytes = Vec::new(alloc);
     for _ in 0..20000 {
-        bytes.extend_from_slice(b"abc\n\ndefg\n").expect(&rt, "bytes");
+        bytes
+            .extend_from_slice(b"abc\n\ndefg\n")
+            .expect(&rt, "bytes");
     }
     let mut source = source(&rt, alloc, bytes.as_slice(), &[]);
     let mut reader = reader(&rt, alloc);
