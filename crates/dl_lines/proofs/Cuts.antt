@@ -69,6 +69,15 @@ pub raw_joined : (bytes : List ℕ) → join_with_byte 10 (raw_lines bytes) ≡ 
 unfolding raw_lines
 raw_joined bytes = join_with_byte-slice_split 10 bytes
 
+joined_cons : (line : List ℕ) (lines : List (List ℕ)) → 0 < length lines → join_with_byte 10 (line ∷ lines) ≡ line ++ 10 ∷ join_with_byte 10 lines
+joined_cons line [] some = absurd (omega arith)
+joined_cons line (next ∷ lines) some = refl
+
+-- bytes are their first line, its LF and the rest
+pub raw_front : (bytes line ahead : List ℕ) → raw_lines bytes ≡ line ∷ raw_lines ahead → bytes ≡ line ++ 10 ∷ ahead
+raw_front bytes line ahead e =
+    sym (raw_joined bytes) ∙ ap (join_with_byte 10) e ∙ joined_cons line (raw_lines ahead) (raw_some ahead) ∙ ap (λ (l : List ℕ). line ++ 10 ∷ l) (raw_joined ahead)
+
 clear_onto_first : (b : ℕ) (lines : List (List ℕ)) → is_lf b ≡ false → All HasNoLf lines → All HasNoLf (onto_first b lines)
 clear_onto_first b [] e h = All-cons HasNoLf (b ∷ []) [] (All-cons (λ x. is_lf x ≡ false) b [] e (All-nil (λ x. is_lf x ≡ false))) (All-nil HasNoLf)
 clear_onto_first b (line ∷ lines) e h =

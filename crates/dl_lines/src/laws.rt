@@ -1,6 +1,6 @@
 //! Laws of lines, each as the contract of a function that does nothing.
 
-ghost use Rattle.dl_lines.specs.Laws.{AccountsBegin, AccountsGoOn, LinesAreTheBytes, LinesComeFirst};
+ghost use Rattle.dl_lines.specs.Laws.{AccountsBegin, AccountsGoOn, CallsRunOut, LinesAreTheBytes, LinesComeFirst};
 
 /// Every byte is in exactly one raw line or is an LF between two.
 pub fn lines_are_the_bytes()
@@ -21,4 +21,9 @@ pub fn accounts_go_on()
 /// What was answered before the lines have ended comes first among the lines of the whole input, whatever follows.
 pub fn lines_come_first()
     ensures { LinesComeFirst }
+{}
+
+/// A loop over all lines ends.
+pub fn calls_run_out()
+    ensures { CallsRunOut }
 {}

@@ -11,6 +11,8 @@ mod laws;
 mod next;
 mod reader;
 
-pub use laws::{accounts_begin, accounts_go_on, lines_are_the_bytes, lines_come_first};
+pub use laws::{
+    accounts_begin, accounts_go_on, calls_run_out, lines_are_the_bytes, lines_come_first,
+};
 pub use next::{Ending, Next};
 pub use reader::{LONGEST_LINE, LineReader, MOST_BYTES};
