@@ -1,5 +1,5 @@
-//! Tests of what needs no threads: literals, orders, streams, lines, theories, marks, numbers, texts, certificates, drafts, editions,
-//! boards and journals.
+//! Tests of what needs no threads: literals, orders, streams, lines, theories, marks, numbers, texts, requests, certificates, drafts,
+//! editions, boards and journals.
 //!
 //! They are apart from what they test, since a crate with tests is proved twice, with them and without. Each file is about one subject.
 //! `texts` reads what the others need from text, and `editions` compares what editions say.
@@ -35,6 +35,8 @@ mod pairs;
 mod reading;
 #[cfg(test)]
 mod regions;
+#[cfg(test)]
+mod requests;
 #[cfg(test)]
 mod rooms;
 #[cfg(test)]

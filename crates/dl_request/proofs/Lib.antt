@@ -1,0 +1,4 @@
+pub mod Asking
+pub mod CutWords
+pub mod Deciding
+pub mod FirstWords
