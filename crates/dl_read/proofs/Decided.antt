@@ -65,7 +65,7 @@ adds_one line x y h i = some_is x y (sym h.2 ∙ ap added (says_one line i.0 h.0
 
 -- the first word decides
 
-same_bytes : (xs ys : List ℕ) → (xs ≡ ys) ⊎ (xs ≡ ys → ⊥)
+pub same_bytes : (xs ys : List ℕ) → (xs ≡ ys) ⊎ (xs ≡ ys → ⊥)
 same_bytes [] [] = inl refl
 same_bytes [] (y ∷ ys) = inr (λ e. cc)
 same_bytes (x ∷ xs) [] = inr (λ e. cc)

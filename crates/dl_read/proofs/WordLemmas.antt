@@ -26,7 +26,7 @@ all_weaker p q (b ∷ xs) f h = let two = both_hold (p b) (list_all p xs) h in r
 pub blanks_front : (blanks rest : List ℕ) → AreBlank blanks → has_variables (blanks ++ rest) ≡ has_variables rest
 blanks_front blanks rest h = plain_front blanks rest (all_weaker is_blank plain blanks (λ b. plain_by is_blank b refl refl) h)
 
-unblank_front : (blanks rest : List ℕ) → AreBlank blanks → begins_with is_blank rest ≡ false → unblank (blanks ++ rest) ≡ rest
+pub unblank_front : (blanks rest : List ℕ) → AreBlank blanks → begins_with is_blank rest ≡ false → unblank (blanks ++ rest) ≡ rest
 unblank_front blanks rest h e = ap (λ (n : ℕ). drop n (blanks ++ rest)) (prefix_whole is_blank blanks rest h e) ∙ drop_front blanks rest
 
 -- what is no blank and no `#`
@@ -37,7 +37,7 @@ word_byte b h = of_not (is_blank b) (not (b == 35)) h
     of_not true w h = cc
     of_not false w h = refl
 
-blank_ends : (rest : List ℕ) → begins_with is_blank rest ≡ true → begins_with in_word rest ≡ false
+pub blank_ends : (rest : List ℕ) → begins_with is_blank rest ≡ true → begins_with in_word rest ≡ false
 blank_ends [] h = cc
 blank_ends (b ∷ rest) h = rw h refl
 
