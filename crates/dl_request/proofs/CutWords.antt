@@ -1,7 +1,8 @@
 -- The words of a line, from its bytes and back.
-use Rattle.std.proofs.Common.{◌≡◌, ℕ, suc, ◌+◌, ◌^◌, ◌<◌, ◌≤◌, Bool, true, false, not, cond, ◌&&◌, ◌||◌, ◌==◌, nat_le, List, [], ◌∷◌, ◌++◌, IsTrue, length, take, drop, decimal, refl, sym, ap, subst, ◌∙◌, arith, le-leb, take-append-drop}
+use Rattle.std.proofs.Common.{◌≡◌, ℕ, suc, ◌+◌, ◌^◌, ◌<◌, ◌≤◌, Bool, true, false, not, cond, ◌&&◌, ◌==◌, nat_le, List, [], ◌∷◌, ◌++◌, IsTrue, length, take, drop, decimal, refl, sym, ap, subst, ◌∙◌, arith, le-leb, take-append-drop}
 use Rattle.std.specs.List.{prefix_len, list_all}
 use Rattle.std.specs.Str.Parse.{AllDigits}
+use Rattle.std.proofs.lemmas.Bool.{and_from, both_ways, false_from_ne_true, or_right}
 use Rattle.std.proofs.lemmas.Fmt.{decimal_is_IsNumeral, decimal_injective}
 use Rattle.std.proofs.lemmas.Str.Parse.{digit_from_value}
 use Rattle.dl_lit.specs.Name.{begins_name, continues_name, is_name}
@@ -10,15 +11,14 @@ use Rattle.dl_read.specs.Tokens.{unblank}
 use Rattle.dl_read.specs.Words.{in_word, word_length, word_of, past_word}
 use Rattle.dl_read.specs.EditLines.{BeginsWith}
 use Rattle.dl_read.proofs.Scanning.{plain, plain_by, both_hold, prefix_passes, differs, eq_of, by_test}
-use Rattle.dl_read.proofs.Lexing.{prefix_whole, take_front, drop_front}
-use Rattle.dl_read.proofs.WordLemmas.{all_weaker, blanks_front, plain_front, word_variables}
+use Rattle.dl_read.proofs.Lexing.{prefix_ends, prefix_whole, take_front, drop_front}
+use Rattle.dl_read.proofs.WordLemmas.{all_weaker, blank_ends, blanks_front, plain_front, unblank_front, word_variables}
 use Rattle.dl_read.proofs.Unique.{spelled_plain}
 use Rattle.dl_read.specs.Numbers.{IsNumber}
 use Rattle.dl_request.specs.Requests.{HasNoToken, EndsWith, IsOnlyName}
 
 pub clash : {P : Type 0} (v : Bool) → v ≡ true → v ≡ false → P
-clash true h k = cc
-clash false h k = cc
+clash v h k = absurd (both_ways v k h)
 
 -- Bytes
 
@@ -28,12 +28,8 @@ word_byte b h = rw (differs continues_name 32 b refl h, differs continues_name 9
 no_blank : (b : ℕ) → continues_name b ≡ true → is_blank b ≡ false
 no_blank b h = rw (differs continues_name 32 b refl h, differs continues_name 9 b refl h) refl
 
-never_both : (v w : Bool) → (v ≡ true → w ≡ false) → w ≡ true → v ≡ false
-never_both true w f h = clash w h (f refl)
-never_both false w f h = refl
-
 blank_ends_name : (b : ℕ) → is_blank b ≡ true → continues_name b ≡ false
-blank_ends_name b h = never_both (continues_name b) (is_blank b) (no_blank b) h
+blank_ends_name b h = false_from_ne_true (continues_name b) (λ c. both_ways (is_blank b) (no_blank b c) h)
 
 blank_ends_word : (b : ℕ) → is_blank b ≡ true → in_word b ≡ false
 blank_ends_word b h = rw h refl
@@ -60,9 +56,6 @@ all_word (b ∷ word) w = w
 pub word_plain : (word : List ℕ) → IsWord word → list_all plain word ≡ true
 word_plain word w = all_weaker continues_name plain word (λ b. plain_by continues_name b refl refl) (all_word word w)
 
-unblank_front : (blanks rest : List ℕ) → AreBlank blanks → begins_with is_blank rest ≡ false → unblank (blanks ++ rest) ≡ rest
-unblank_front blanks rest h e = ap (λ (n : ℕ). drop n (blanks ++ rest)) (prefix_whole is_blank blanks rest h e) ∙ drop_front blanks rest
-
 -- the first word of a line, and what follows it
 pub front_word : (blanks word rest line : List ℕ) → AreBlank blanks → IsWord word → begins_with in_word rest ≡ false → line ≡ blanks ++ (word ++ rest)
     → (word_of line ≡ word) × (past_word line ≡ rest)
@@ -75,14 +68,6 @@ front_word blanks (b ∷ word) rest line h w e o =
       ap (λ (k : ℕ). take k (unblank line)) n ∙ ap (take (length (b ∷ word))) bytes ∙ take_front (b ∷ word) rest,
       ap (λ (k : ℕ). drop k (unblank line)) n ∙ ap (drop (length (b ∷ word))) bytes ∙ drop_front (b ∷ word) rest,
     )
-
--- the longest front ends where the next byte fails
-prefix_ends : (p : ℕ → Bool) (bs : List ℕ) → begins_with p (drop (prefix_len p bs) bs) ≡ false
-prefix_ends p [] = refl
-prefix_ends p (b ∷ bs) =
-    let i : begins_with p (drop (prefix_len p bs) bs) ≡ false = prefix_ends p bs in
-    let one : 1 + prefix_len p bs ≡ suc (prefix_len p bs) = omega arith in
-    by_test (λ (n : ℕ). begins_with p (drop n (b ∷ bs)) ≡ false) (p b) (1 + prefix_len p bs) 0 (λ e. rw one i) (λ e. e)
 
 pub past_ends : (line : List ℕ) → begins_with in_word (past_word line) ≡ false
 past_ends line = prefix_ends in_word (unblank line)
@@ -175,12 +160,8 @@ pub name_found : (name line : List ℕ) → IsTrue (is_name name) → word_of li
 name_found name line n e h =
     (take (prefix_len is_blank line) line, past_word line, prefix_passes is_blank line, (n, ends_name (past_word line) h), word_order name line e, h)
 
-begins_blank_ends : (rest : List ℕ) → begins_with is_blank rest ≡ true → begins_with in_word rest ≡ false
-begins_blank_ends [] h = cc
-begins_blank_ends (b ∷ rest) h = blank_ends_word b h
-
 pub begins_words : (word line rest : List ℕ) → IsWord word → BeginsWith word line rest → (word_of line ≡ word) × (past_word line ≡ rest)
-begins_words word line rest w h = front_word h.blanks word rest line h.are_blank w (begins_blank_ends rest h.spaced) h.order
+begins_words word line rest w h = front_word h.blanks word rest line h.are_blank w (blank_ends rest h.spaced) h.order
 
 pub begins_plain : (word line rest : List ℕ) → IsWord word → BeginsWith word line rest → has_variables line ≡ has_variables rest
 begins_plain word line rest w h = word_variables word line rest (word_plain word w) h
@@ -209,23 +190,15 @@ spaced (b ∷ rest) word e h w = either (is_blank b) refl
 
 -- Numbers
 
-both_then : (v w : Bool) → v ≡ true → w ≡ true → (v && w) ≡ true
-both_then true w h k = k
-both_then false w h k = cc
-
-right_then : (v w : Bool) → w ≡ true → (v || w) ≡ true
-right_then true w h = refl
-right_then false w h = h
-
 digit_continues : (c : ℕ) → 48 ≤ c → c ≤ 57 → continues_name c ≡ true
 digit_continues c low high =
-    right_then (begins_name c) (nat_le 48 c && nat_le c 57) (both_then (nat_le 48 c) (nat_le c 57) (le-leb _ _ low) (le-leb _ _ high))
+    or_right (begins_name c) (nat_le 48 c && nat_le c 57) (and_from (nat_le 48 c) (nat_le c 57) (le-leb _ _ low) (le-leb _ _ high))
 
 digits_continue : (ds : List ℕ) → AllDigits 10 ds → list_all continues_name ds ≡ true
 digits_continue [] d = refl
 digits_continue (c ∷ ds) d =
     let digit = digit_from_value c d.0 in
-    both_then (continues_name c) (list_all continues_name ds) (digit_continues c (omega arith) (omega arith)) (digits_continue ds d.1)
+    and_from (continues_name c) (list_all continues_name ds) (digit_continues c (omega arith) (omega arith)) (digits_continue ds d.1)
 
 digits_word : (ds : List ℕ) → 0 < length ds → AllDigits 10 ds → IsWord ds
 digits_word [] l d = absurd (omega arith)

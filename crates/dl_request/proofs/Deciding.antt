@@ -1,7 +1,7 @@
 -- Of each line it is decided what it asks for.
-use Rattle.std.proofs.Common.{◌≡◌, ◌⊎◌, ℕ, zero, suc, ◌^◌, ◌<◌, Bool, true, false, List, [], ◌∷◌, drop, get_or, decimal, refl, ap, ◌∙◌, inl, inr, arith}
+use Rattle.std.proofs.Common.{◌≡◌, ◌⊎◌, ℕ, zero, suc, ◌^◌, ◌<◌, Bool, true, false, List, [], ◌∷◌, decimal, refl, ap, ◌∙◌, inl, inr, arith}
 use Rattle.std.specs.Prelude.{codes}
-use Rattle.std.proofs.lemmas.Bool.{cases_eq, cases_lt}
+use Rattle.std.proofs.lemmas.Bool.{cases_lt}
 use Rattle.dl_lit.specs.declared.literal.Family.{Family}
 use Rattle.dl_lit.specs.declared.literal.Family.TheVariants.{Definite, Blocking, Propagating, Support}
 use Rattle.dl_lit.specs.declared.literal.Literal.{Literal}
@@ -9,7 +9,7 @@ use Rattle.dl_theory.specs.declared.edit.Edit.{Edit}
 use Rattle.dl_read.specs.Grammar.{is_blank, begins_with, has_variables}
 use Rattle.dl_read.specs.Words.{word_of, past_word}
 use Rattle.dl_read.specs.EditLines.{IsEditLine}
-use Rattle.dl_read.proofs.Decided.{literals_are_decided, edits_are_decided}
+use Rattle.dl_read.proofs.Decided.{same_bytes, literals_are_decided, edits_are_decided}
 use Rattle.dl_read.specs.Numbers.{IsNumber}
 use Rattle.dl_request.specs.declared.keyword.Keyword.{Keyword}
 use Rattle.dl_request.specs.declared.keyword.Keyword.TheVariants as word
@@ -27,19 +27,6 @@ abbrev Either : {A : Type 0} → (A → Type 0) → Type 0
 Either {A} P = ((x : A) × P x) ⊎ ((x : A) → P x → ⊥)
 
 -- Words
-
-same_bytes : (xs ys : List ℕ) → (xs ≡ ys) ⊎ (xs ≡ ys → ⊥)
-same_bytes [] [] = inl refl
-same_bytes [] (y ∷ ys) = inr (λ e. cc)
-same_bytes (x ∷ xs) [] = inr (λ e. cc)
-same_bytes (x ∷ xs) (y ∷ ys) =
-    elim (cases_eq x y) [
-      | inl first ↦ elim (same_bytes xs ys) [
-        | inl rest ↦ inl (λ i. first i ∷ rest i)
-        | inr other ↦ inr (λ e. other (ap (drop 1) e))
-      ]
-      | inr other ↦ inr (λ e. other (ap (λ (l : List ℕ). get_or l 0 0) e))
-    ]
 
 -- the number that a word is, if that is below k
 record IsBelow (word : List ℕ) (k n : ℕ) : Type 0 where

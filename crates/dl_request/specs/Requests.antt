@@ -75,7 +75,7 @@ Asks line x = Means (without_cr line) x
 abbrev pub AsksOnly : List ℕ → Asked → Type 0
 AsksOnly line x = Asks line x × ((y : Asked) → Asks line y → y ≡ x)
 
--- what reading may want memory for: an edit, a literal, or a line that is neither
+-- what reading may want memory for: an edit, a question, or a refusal for form
 abbrev pub MayWantMemory : Asked → Type 0
 MayWantMemory asked.Form = Unit {0}
 MayWantMemory (asked.Request (Edit e)) = Unit {0}
