@@ -1,7 +1,7 @@
 //! The lines of entries.
 
 use crate::texts::{edit_of, name, sink};
-use dl_calls::{Call, Entry, Reply, write_entry};
+use dl_calls::{Call, Entry, Reply, write_entry, write_reply};
 use dl_theory::{EditRefusal, Path};
 use std::alloc::Global;
 use std::process::Abort;
@@ -70,4 +70,22 @@ fn entries_have_their_lines(rt: HostRuntime) {
     expect_line(&rt, alloc, 0, Call::Publish, Reply::Edition(0), line);
     expect_edits(&rt, alloc);
     expect_holds(&rt, alloc);
+}
+
+fn expect_words(rt: &impl Abort, alloc: Global, reply: &Reply, words: &str) {
+    let mut line = sink(alloc);
+    assert!(rt; write_reply(&mut line, reply).is_ok());
+    assert!(rt; line.bytes() == words.as_bytes());
+}
+
+#[test]
+fn replies_have_their_words(rt: HostRuntime) {
+    let alloc = rt.alloc();
+    expect_words(&rt, alloc, &Reply::Edited, "ok");
+    expect_words(&rt, alloc, &cycle(&rt, alloc), "refused cycle s t r");
+    let none = Reply::Unpublished {
+        asked: 1,
+        published: 0,
+    };
+    expect_words(&rt, alloc, &none, "refused unpublished 1 of 0");
 }

@@ -6,8 +6,8 @@ use dl_print::{
     write_edit, write_literal, write_number, write_refusal, write_tagged, write_theory,
 };
 use dl_read::{
-    LineStop, ReadStop, read_bare_tagged, read_edit, read_file, read_literal, read_statement,
-    read_tagged,
+    LineStop, ReadStop, read_bare_tagged, read_edit, read_file, read_literal, read_number,
+    read_statement, read_tagged,
 };
 use std::alloc::Global;
 use std::process::Abort;
@@ -216,4 +216,24 @@ fn literals_and_statements_are_read(rt: HostRuntime) {
     }
     assert!(rt; read_statement(rt.alloc(), b"a->-b").is_ok());
     assert!(rt; read_statement(rt.alloc(), b"a > b > c").is_err());
+}
+
+const NUMBERS: [(&[u8], Option<u64>); 10] = [
+    (b"0", Some(0)),
+    (b"64", Some(64)),
+    (b"9999999999999999999", Some(9_999_999_999_999_999_999)),
+    (b"10000000000000000000", None),
+    (b"", None),
+    (b"00", None),
+    (b"07", None),
+    (b"+7", None),
+    (b"-0", None),
+    (b"7 ", None),
+];
+
+#[test]
+fn numbers_have_one_spelling(rt: HostRuntime) {
+    for (word, number) in NUMBERS.iter() {
+        assert!(rt; read_number(word) == *number);
+    }
 }
