@@ -1,5 +1,5 @@
 -- Boards as callers see them.
-use Rattle.std.specs.Prelude.{ℕ, List, []}
+use Rattle.std.specs.Prelude.{◌≡◌, ℕ, List, []}
 use Rattle.dl_theory.specs.Lists.{TheoryLists}
 use Rattle.dl_calls.specs.declared.entry.Entry.{Entry}
 
@@ -12,3 +12,9 @@ pub record BoardLists : Type 0 where
 -- no entry and no seat
 abbrev pub opening_board : TheoryLists → BoardLists
 opening_board T = record { start = T; history = []; enrolled = 0 }
+
+-- start, history and seats are as before
+pub record IsAsBefore (old new : BoardLists) : Type 0 where
+  pub start : new.start ≡ old.start
+  pub history : new.history ≡ old.history
+  pub enrolled : new.enrolled ≡ old.enrolled

@@ -2,6 +2,7 @@
 
 ghost use Rattle.std.specs.Prelude.{◌≡◌, ◌<◌, IfOk, OnErr, length};
 ghost use Rattle.dl_calls.specs.Histories.{IsLegal, state_after};
+ghost use Rattle.dl_board.specs.Boards.{IsAsBefore};
 ghost use Rattle.dl_board.specs.Turns.{IsTurn, IsEdit, IsHeldAnswer};
 
 use crate::board::Board;
@@ -15,8 +16,8 @@ use std::sync::ledger::Ledger;
 
 impl<L: Ledger> Board<L> {
     /// Makes the call of an enrolled seat, and adds it to the history with its reply. A refused edit and a hold of an edition
-    /// that is not published are answers like any other. `Memory` where there is none for the answer or its entry; history,
-    /// editions and draft are as before then. Only an edit makes steps.
+    /// that is not published are answers like any other. `Memory` where there is none for the answer or its entry; start,
+    /// history and seats are as before then. Only an edit makes steps.
     pub fn turn<M: Ledger>(
         &mut self,
         seat: u64,
@@ -27,7 +28,7 @@ impl<L: Ledger> Board<L> {
         requires seat { seat < self.old.enrolled }
         ensures answered { IfOk result (IsTurn self.old self.new seat call) }
         ensures legal { IsLegal self.new.start self.new.history }
-        ensures kept { OnErr result (self.new ≡ self.old) }
+        ensures kept { OnErr result (IsAsBefore self.old self.new) }
         ensures steps { (¬ IsEdit call) → steps.new ≡ steps.old }
     {
         match call {
@@ -47,7 +48,7 @@ impl<L: Ledger> Board<L> {
         requires seat { seat < self.old.enrolled }
         ensures answered { IfOk result (IsTurn self.old self.new seat (Call.Edit edit)) }
         ensures legal { IsLegal self.new.start self.new.history }
-        ensures kept { OnErr result (self.new ≡ self.old) }
+        ensures kept { OnErr result (IsAsBefore self.old self.new) }
     {
         self.entries.reserve(1)?;
         match self.draft.touch(&edit, steps) {
@@ -77,7 +78,7 @@ impl<L: Ledger> Board<L> {
         requires seat { seat < self.old.enrolled }
         ensures answered { IfOk result (IsTurn self.old self.new seat Call.Publish) }
         ensures legal { IsLegal self.new.start self.new.history }
-        ensures kept { OnErr result (self.new ≡ self.old) }
+        ensures kept { OnErr result (IsAsBefore self.old self.new) }
     {
         let number = self.editions.len() as u64;
         let held = self.frozen(number)?;
@@ -106,7 +107,7 @@ impl<L: Ledger> Board<L> {
         requires seat { seat < self.old.enrolled }
         ensures answered { IfOk result (IsTurn self.old self.new seat (Call.Hold number)) }
         ensures legal { IsLegal self.new.start self.new.history }
-        ensures kept { OnErr result (self.new ≡ self.old) }
+        ensures kept { OnErr result (IsAsBefore self.old self.new) }
     {
         let turned = self.sought(number)?;
         let reply = turned.reply()?;
