@@ -10,7 +10,7 @@ use Rattle.dl_calls.specs.declared.reply.Reply.{Reply}
 use Rattle.dl_calls.specs.declared.reply.Reply.TheVariants.{Enrolled}
 use Rattle.dl_calls.specs.declared.entry.Entry.{Entry}
 use Rattle.dl_calls.specs.Histories.{IsLegal, state_after}
-use Rattle.dl_board.specs.Boards.{BoardLists}
+use Rattle.dl_board.specs.Boards.{BoardLists, IsAsBefore}
 use Rattle.dl_board.specs.Turns.{IsTurn, HandsOut, reply_of}
 use Rattle.dl_board.specs.declared.turned.Turned.{Turned}
 use Rattle.dl_edition.specs.Offices.{SeatLists, Stays, HasWaited, Tells, IsCall, enrol_reply}
@@ -28,11 +28,18 @@ board_out history count = Some (history, count)
 abbrev pub given : SeatLists → List Entry → Option ℕ → List Entry → SeatLists
 given v history number mine = record v { number = number; seen = history; mine = mine; out = None }
 
+as_before : (old new : BoardLists) → new ≡ old → IsAsBefore old new
+as_before old new same = record {
+  start = ap (λ (B : BoardLists). B.start) same;
+  history = ap (λ (B : BoardLists). B.history) same;
+  enrolled = ap (λ (B : BoardLists). B.enrolled) same;
+}
+
 -- a turn leaves the start
-pub turn_starts : {M : Type 0} (old new : BoardLists) (k : ℕ) (asked : Call) (r : Result Turned M) → IfOk r (IsTurn old new k asked) → OnErr r (new ≡ old)
-    → new.start ≡ old.start
+pub turn_starts : {M : Type 0} (old new : BoardLists) (k : ℕ) (asked : Call) (r : Result Turned M) → IfOk r (IsTurn old new k asked)
+    → OnErr r (IsAsBefore old new) → new.start ≡ old.start
 turn_starts old new k asked (Ok t) turn kept = turn.start
-turn_starts old new k asked (Err m) turn kept = ap (λ (B : BoardLists). B.start) kept
+turn_starts old new k asked (Err m) turn kept = kept.start
 
 -- v is the seat before, and t with the board out; the board was old when it was taken, and is new
 module _ (v t : SeatLists) (old new : BoardLists) (taken : t ≡ with_board v old.history old.enrolled) (start : old.start ≡ v.start) where
@@ -42,12 +49,15 @@ module _ (v t : SeatLists) (old new : BoardLists) (taken : t ≡ with_board v ol
   out_is : (count : ℕ) → old.enrolled ≡ count → t.out ≡ Some (old.history, count)
   out_is count is = ap (λ (s : SeatLists). s.out) taken ∙ ap (board_out old.history) is
 
+  out_kept : IsAsBefore old new → t.out ≡ Some (new.history, new.enrolled)
+  out_kept kept = out_is new.enrolled (sym kept.enrolled) ∙ ap (λ (l : List Entry). board_out l new.enrolled) (sym kept.history)
+
   -- the turn's board may be given back
-  pub may_give : {M : Type 0} (k : ℕ) (asked : Call) (r : Result Turned M) → IfOk r (IsTurn old new k asked) → OnErr r (new ≡ old) → v.number ≡ Some k
+  pub may_give : {M : Type 0} (k : ℕ) (asked : Call) (r : Result Turned M) → IfOk r (IsTurn old new k asked) → OnErr r (IsAsBefore old new) → v.number ≡ Some k
       → MayGive (λ (e : Entry). e.seat) t.out t.number new.history new.enrolled
   may_give k asked (Ok x) turn kept number =
       inr (inl (old.history, entry k asked (reply_of x), out_is new.enrolled (sym turn.enrolled), turn.history, ap (λ (s : SeatLists). s.number) taken ∙ number))
-  may_give k asked (Err m) turn kept number = inl (out_is old.enrolled refl ∙ ap (λ (B : BoardLists). board_out B.history B.enrolled) (sym kept))
+  may_give k asked (Err m) turn kept number = inl (out_kept kept)
 
   -- so may that of an enrolment
   pub may_give_first : {M : Type 0} (amount : ℕ) (r : Result ℕ M) → IfOk r (λ k. (k ≡ amount) × (k ≡ old.enrolled))
@@ -62,7 +72,7 @@ module _ (v t : SeatLists) (old new : BoardLists) (taken : t ≡ with_board v ol
         ap (λ (s : SeatLists). s.number) taken ∙ none,
         more ∙ ap (λ (n : ℕ). n + 1) (sym next.1),
       ))
-  may_give_first amount (Err m) next grown more kept none = inl (out_is old.enrolled refl ∙ ap (λ (B : BoardLists). board_out B.history B.enrolled) (sym kept))
+  may_give_first amount (Err m) next grown more kept none = inl (out_kept (as_before old new kept))
 
   -- w is the seat after the give
   module _ (w : SeatLists) (back : w ≡ given t new.history w.number w.mine) (seen : StartsWith old.history v.seen) (legal : IsLegal new.start new.history) where
@@ -91,16 +101,16 @@ module _ (v t : SeatLists) (old new : BoardLists) (taken : t ≡ with_board v ol
     last_seen e grown = seen_is ∙ grown ∙ ap (λ (l : List Entry). l ++ e ∷ []) seen.1
 
     -- nothing was added
-    waited : new ≡ old → ((w.number ≡ t.number) × (w.mine ≡ t.mine)) → HasWaited v w
+    waited : IsAsBefore old new → ((w.number ≡ t.number) × (w.mine ≡ t.mine)) → HasWaited v w
     waited kept same = record {
       number = same.0 ∙ ap (λ (s : SeatLists). s.number) taken;
       mine = same.1 ∙ ap (λ (s : SeatLists). s.mine) taken;
-      seen = (seen.0, seen_is ∙ ap (λ (B : BoardLists). B.history) kept ∙ seen.1);
+      seen = (seen.0, seen_is ∙ kept.history ∙ seen.1);
     }
 
     module _ (as_taken : t.out ≡ Some (new.history, new.enrolled) → (w.number ≡ t.number) × (w.mine ≡ t.mine)) where
-      kept_same : new ≡ old → (w.number ≡ t.number) × (w.mine ≡ t.mine)
-      kept_same kept = as_taken (out_is old.enrolled refl ∙ ap (λ (B : BoardLists). board_out B.history B.enrolled) (sym kept))
+      kept_same : IsAsBefore old new → (w.number ≡ t.number) × (w.mine ≡ t.mine)
+      kept_same kept = as_taken (out_kept kept)
 
       pub first_told : {M : Type 0} (amount : ℕ) (r : Result ℕ M) → IfOk r (λ k. (k ≡ amount) × (k ≡ old.enrolled))
           → IfOk r (λ k. new.history ≡ old.history ++ entry k Enrol (Enrolled k) ∷ []) → OnOk r (new.enrolled ≡ old.enrolled + 1) → OnErr r (new ≡ old)
@@ -119,9 +129,9 @@ module _ (v t : SeatLists) (old new : BoardLists) (taken : t ≡ with_board v ol
             },
             (next.0, got.0),
           )
-      first_told amount (Err m) next grown more kept first = (waited kept (kept_same kept), tt)
+      first_told amount (Err m) next grown more kept first = (let same = as_before old new kept in (waited same (kept_same same), tt))
 
-      pub called : {M : Type 0} (k : ℕ) (asked : Call) (r : Result Turned M) → IfOk r (IsTurn old new k asked) → OnErr r (new ≡ old) → v.number ≡ Some k
+      pub called : {M : Type 0} (k : ℕ) (asked : Call) (r : Result Turned M) → IfOk r (IsTurn old new k asked) → OnErr r (IsAsBefore old new) → v.number ≡ Some k
           → ((before : List Entry) (l : Entry) → t.out ≡ Some (before, new.enrolled) → new.history ≡ before ++ l ∷ []
           → (w.number ≡ t.number) × (w.mine ≡ t.mine ++ l ∷ []))
           → IsCall v w asked (turned_reply r)
@@ -143,7 +153,7 @@ module _ (v t : SeatLists) (old new : BoardLists) (taken : t ≡ with_board v ol
       called k asked (Err m) turn kept number own =
           let got = kept_same kept in
           record {
-            stays = stays (ap (λ (B : BoardLists). B.start) kept);
+            stays = stays kept.start;
             number = got.0 ∙ ap (λ (s : SeatLists). s.number) taken;
             tells = waited kept got;
           }

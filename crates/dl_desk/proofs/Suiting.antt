@@ -7,15 +7,10 @@ use Rattle.dl_calls.specs.declared.call.Call.TheVariants.{Enrol, Edit, Publish, 
 use Rattle.dl_calls.specs.declared.reply.Reply.{Reply}
 use Rattle.dl_calls.specs.declared.reply.Reply.TheVariants.{Edited, EditRefused, Holding, Unpublished}
 use Rattle.dl_calls.specs.declared.entry.Entry.{Entry}
-use Rattle.dl_calls.specs.Reasoner.{State, opening, IsStep}
-use Rattle.dl_calls.specs.Histories.{after, after_all, Runs, IsLegal, state_after}
+use Rattle.dl_calls.specs.Reasoner.{State, IsStep}
+use Rattle.dl_calls.specs.Histories.{IsLegal, state_after}
+use Rattle.dl_calls.proofs.Runs.{last_entry_is_a_step}
 use Rattle.dl_desk.specs.Turning.{Suits}
-
--- the last of entries that run is a step
-runs_last : (s : State) (first : List Entry) (e : Entry) → Runs s (first ++ e ∷ [])
-    → IsStep (after_all s first) e.seat e.call e.reply (after (after_all s first) e)
-runs_last s [] e h = h.0
-runs_last s (x ∷ first) e h = runs_last (after s x) first e h.1
 
 either_suits : (n published : ℕ) (found : Bool) → Suits (Hold n) (if found then Holding n else Unpublished n published)
 either_suits n published true = refl
@@ -33,4 +28,4 @@ step_suits s next seat (Edit e) _ other h = absurd h
 -- the last entry of a legal history has a reply of the kinds of its call
 pub last_suits : (T : TheoryLists) (history : List Entry) (e : Entry) → ¬ (e.call ≡ Enrol) → IsLegal T (history ++ e ∷ []) → Suits e.call e.reply
 last_suits T history e other h =
-    step_suits (state_after T history) (after (state_after T history) e) e.seat e.call e.reply other (runs_last (opening T) history e h)
+    step_suits (state_after T history) (state_after T (history ++ e ∷ [])) e.seat e.call e.reply other (last_entry_is_a_step T history e h)

@@ -2,6 +2,7 @@
 
 ghost use Rattle.std.specs.Prelude.{◌≡◌, ◌<◌, IfOk, OnErr};
 ghost use Rattle.dl_calls.specs.Histories.{IsLegal, state_after};
+ghost use Rattle.dl_board.specs.Boards.{IsAsBefore};
 ghost use Rattle.dl_board.specs.Turns.{IsTurn, HandsOut, reply_of};
 ghost use Rattle.dl_edition.specs.Offices.{MayCall, IsCall};
 ghost use Rattle.dl_desk.specs.Turning.{turned_reply, Suits};
@@ -32,7 +33,7 @@ fn counted_turn<M: Ledger, L: Ledger>(
     requires seat { seat < board.old.enrolled }
     ensures answered { IfOk result (IsTurn board.old board.new seat call) }
     ensures legal { IsLegal board.new.start board.new.history }
-    ensures kept { OnErr result (board.new ≡ board.old) }
+    ensures kept { OnErr result (IsAsBefore board.old board.new) }
 {
     let mut steps = Steps::<M>::make(blank);
     board.turn(seat, call, &mut steps)

@@ -2,6 +2,7 @@
 
 ghost use Rattle.std.specs.Prelude.{◌≡◌, ◌⊎◌, ◌<◌, ◌+◌, ◌-◌, ◌^◌, [], ◌++◌, Some, None, All, IfOk, IfSome, OnErr, OnOk, MatchResult};
 ghost use Rattle.dl_calls.specs.declared.call.Call.TheVariants.{Enrol};
+ghost use Rattle.dl_calls.specs.Histories.{IsLegal};
 ghost use Rattle.dl_turn.specs.History.{StartsWith, own_lines, HasLines, AllBelow};
 ghost use Rattle.dl_turn.specs.Views.{new_seat, with_board, numbers_of};
 ghost use Rattle.dl_edition.specs.Offices.{Stays, Tells, enrol_reply};
@@ -99,20 +100,24 @@ impl<L: Ledger> Desk<L> {
         self.turnstile.join(seat, other);
     }
 
-    /// Waits until the board is in its place, and takes it for good. Its history begins with all that the seat has seen, and
-    /// has of the seat's number, and of each number that was joined into the seat, just the entries that the seat knows. The
-    /// seat comes back with the board, and is out.
+    /// Waits until the board is in its place, and takes it for good. Its history is legal and begins with all that the seat has
+    /// seen. It has of the seat's number, and of each number that was joined into the seat, just the entries that the seat
+    /// knows. The seat comes back with the board, and is out.
     pub fn finish<R: Wait>(self, rt: &R, seat: Seat<Board<L>>) -> (Board<L>, Seat<Board<L>>)
         requires belongs { seat.place ≡ self }
         requires within { seat.out ≡ None }
         ensures seat { result.1 ≡ with_board seat result.0.history result.0.enrolled }
         ensures start { result.0.start ≡ seat.start }
+        ensures legal { IsLegal result.0.start result.0.history }
         ensures seen { StartsWith result.0.history seat.seen }
         ensures mine { seat.mine ≡ own_lines (λ e. e.seat) seat.number result.0.history }
         ensures number { IfSome seat.number (λ k. k < result.0.enrolled) }
         ensures olds { All (HasLines (λ e. e.seat) result.0.history result.0.enrolled) seat.olds }
         ensures lines { AllBelow (λ e. e.seat) result.0.enrolled result.0.history }
     {
-        self.turnstile.finish(rt, seat)
+        let (board, seat) = self.turnstile.finish(rt, seat);
+        // says that its history is legal
+        let _entries = board.entries();
+        (board, seat)
     }
 }
