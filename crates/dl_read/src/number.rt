@@ -20,7 +20,8 @@ fn begins_otherwise(word: &[u8]) -> bool
 pub fn read_number(word: &[u8]) -> Option<u64>
     ensures { ReadsNumber word.now result }
 {
-    if word.len() > 19 || begins_otherwise(word) {
+    let long = word.len() > 19;
+    if long || begins_otherwise(word) {
         return None;
     }
     match from_utf8(word) {

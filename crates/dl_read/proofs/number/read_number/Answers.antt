@@ -3,15 +3,15 @@ use Rattle.std.specs.Str.Parse.{ParsesUnsigned}
 use Rattle.std.proofs.lemmas.Bool.{both_ways}
 use Rattle.dl_read.specs.Numbers.{begins_otherwise, ReadsNumber}
 use Rattle.dl_read.proofs.Numbers.{number_short, number_begins, number_text, parsed}
-use Rattle.dl_read.proofs.number.read_number.Goals.{then-word-gt19-via-then-word-gt19, then-word-gt19-via-else-word-gt19+then-begins_otherwise}
+use Rattle.dl_read.proofs.number.read_number.Goals.{then-long-via-then-long, then-long-via-else-long+then-begins_otherwise}
 use Rattle.dl_read.proofs.number.read_number.Goals as goal
 
-pub returns-then-word-gt19 : goal.returns-then-word-gt19
-returns-then-word-gt19 c =
+pub returns-then-long : goal.returns-then-long
+returns-then-long c =
     let word = c.args.word.now in
-    elim c.then-word-gt19.branch [
-      | then-word-gt19-via-then-word-gt19 w ↦ λ m h. omega (arith, w.if-word-gt19.true, number_short word m h)
-      | then-word-gt19-via-else-word-gt19+then-begins_otherwise w ↦ λ m h.
+    elim c.then-long.branch [
+      | then-long-via-then-long w ↦ λ m h. omega (arith, w.if-long.true, number_short word m h)
+      | then-long-via-else-long+then-begins_otherwise w ↦ λ m h.
           both_ways (begins_otherwise word) (number_begins word m h) (sym w.begins_otherwise.ensures ∙ w.if-begins_otherwise.true)
     ]
 
@@ -19,7 +19,7 @@ pub returns-in-Ok : goal.returns-in-Ok
 returns-in-Ok c =
     let word = c.args.word.now in
     let begins : begins_otherwise word ≡ false = sym c.begins_otherwise.ensures ∙ c.if-begins_otherwise.false in
-    let short : length word ≤ 19 = omega (arith, c.if-word-gt19.false) in
+    let short : length word ≤ 19 = omega (arith, c.if-long.false) in
     let digits = subst (λ (l : List ℕ). ParsesUnsigned 64 10 l c.parse.result) c.in-Ok.ensures.cases.0 c.parse.ensures.value.0 in
     subst (ReadsNumber word) (sym c.ok.ensures.value) (parsed word c.parse.result short begins digits)
 
