@@ -1,11 +1,6 @@
 -- Lemmas on what a sink handed on.
-use Rattle.std.proofs.Common.{◌≡◌, ℕ, List, ◌++◌, Option, None, Some, Result, Ok, Err, OnOk, refl, ap, ◌∙◌, append_assoc}
+use Rattle.std.proofs.Common.{◌≡◌, ℕ, List, ◌++◌, Option, None, Some, refl, ap, ◌∙◌, append_assoc}
 use Rattle.dl_io.specs.Streams.{IsFront, IsKnownFront}
-use Rattle.ddl.specs.Replies.{HandsOn}
-
-pub hands_on : {T E : Type 0} (handed written : Option (List ℕ)) (result : Result T E) → OnOk result (handed ≡ written) → IsKnownFront handed written → HandsOn handed written result
-hands_on handed written (Ok x) whole front = whole
-hands_on handed written (Err e) whole front = front
 
 -- of a front of a text, a front was handed on
 pub handed_front : (handed : Option (List ℕ)) (written text : List ℕ) → IsKnownFront handed (Some written) → IsFront written text → (front : List ℕ) × (handed ≡ Some front) × IsFront front text

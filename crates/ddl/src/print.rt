@@ -2,7 +2,7 @@
 
 ghost use Rattle.std.specs.Prelude.{◌≡◌};
 ghost use Rattle.dl_io.specs.Outside.{HasCause};
-ghost use Rattle.dl_io.specs.Streams.{WritesAll};
+ghost use Rattle.dl_io.specs.Streams.{IsKnownFront, WritesAll};
 ghost use Rattle.dl_print.specs.Text.{refusal_text};
 ghost use Rattle.ddl.specs.Theories.{line_front, line_text, refusal_words, refused_line};
 ghost use Rattle.ddl.specs.Checks.{checked_line};
@@ -111,7 +111,21 @@ fn write_reply<S: Sink>(alloc: Global, sink: &mut S, reply: &Reply) -> Result<()
     }
 }
 
-/// Writes the reply and flushes, also where the reply was cut short.
+/// Hands on what was written.
+fn hand_on<S: Sink>(sink: &mut S) -> Result<(), Failed>
+    ensures bytes { S.written sink.new ≡ S.written sink.old }
+    ensures handed { HandsOn (S.handed sink.new) (S.written sink.new) result }
+    ensures front { IsKnownFront (S.handed sink.new) (S.written sink.new) }
+    ensures cause { HasCause (S.faults sink.old) (S.faults sink.new) result }
+    ensures name { S.name sink.new ≡ S.name sink.old }
+{
+    match sink.flush() {
+        Ok(()) => Ok(()),
+        Err(failed) => Err(failed),
+    }
+}
+
+/// Writes the reply and hands it on, also where it was cut short.
 pub fn print<S: Sink>(alloc: Global, sink: &mut S, reply: &Reply) -> Result<(), Failed>
     ensures bytes { WritesAll (S.written sink.old) (S.written sink.new) result (reply_text reply.now) }
     ensures handed { HandsOn (S.handed sink.new) (S.written sink.new) result }
@@ -119,7 +133,7 @@ pub fn print<S: Sink>(alloc: Global, sink: &mut S, reply: &Reply) -> Result<(), 
     ensures name { S.name sink.new ≡ S.name sink.old }
 {
     let written = write_reply(alloc, sink, reply);
-    let flushed = sink.flush();
+    let handed = hand_on(sink);
     written?;
-    flushed
+    handed
 }
