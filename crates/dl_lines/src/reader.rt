@@ -78,6 +78,18 @@ impl LineReader {
         })
     }
 
+    /// Forgets all, to read the lines of another source.
+    pub fn restart(&mut self)
+        ensures { self.new ≡ unread }
+    {
+        self.line_start = 0;
+        self.line_end = 0;
+        self.next = 0;
+        self.filled = 0;
+        self.count = 0;
+        self.ended = None;
+    }
+
     /// The next line of the source, or how its lines ended; then a further call answers so again and reads nothing.
     ///
     /// A line is without its LF; a CR before it is kept. Where the input has ended, what stands behind the last LF is a line too, unless it
