@@ -1,0 +1,10 @@
+mod Answering
+mod Counted
+mod Held
+mod Lists
+mod Numbered
+mod Rounds
+mod Searched
+mod Seats
+mod Serving
+mod Sessions

@@ -1,0 +1,7 @@
+pub mod Answering
+pub mod Ends
+pub mod Replies
+pub mod Seats
+pub mod Serving
+pub mod Table
+pub mod Text
