@@ -1,7 +1,9 @@
 -- Members of a list, all of them or some.
 use Rattle.std.proofs.Common.{◌≡◌, Bool, List, [], ◌∷◌, inl, inr, ◌⊎◌, get_or, map, refl, sym, subst, suc, arith}
 use Rattle.std.specs.Prelude.{All, Any, Contains, filter}
-use Rattle.std.proofs.lemmas.List.Elements.{All-nil, All-cons, All-head, All-tail, All-contains, All-contains_itself, All-filter, Contains-append_cases, Contains-append_right, Contains-get_or}
+use Rattle.std.specs.List.{flat_map}
+use Rattle.std.proofs.lemmas.List.Concat.{flat_map-cons}
+use Rattle.std.proofs.lemmas.List.Elements.{All-nil, All-cons, All-head, All-tail, All-contains, All-contains_itself, All-filter, Contains-append_cases, Contains-append_left, Contains-append_right, Contains-get_or}
 
 module _ {X : Type 0} (P Q : X → Type 0) (xs : List X) (f : (x : X) → Contains xs x → P x → Q x) where
   pub all_more : All P xs → All Q xs
@@ -52,3 +54,13 @@ mapped_from f (x ∷ xs) y m =
 pub map_agree : {X Y : Type 0} (f g : X → Y) (xs : List X) → All (λ x. f x ≡ g x) xs → map f xs ≡ map g xs
 map_agree f g [] h = refl
 map_agree f g (x ∷ xs) h = λ i. All-head (λ y. f y ≡ g y) x xs h i ∷ map_agree f g xs (All-tail (λ y. f y ≡ g y) x xs h) i
+
+-- what a function gives for a member is among all that it gives
+pub in_flat_map : {A B : Type 0} (f : A → List B) (xs : List A) (x : A) (y : B) → Contains xs x → Contains (f x) y → Contains (flat_map f xs) y
+in_flat_map f [] x y m n = absurd (omega (arith, m.1))
+in_flat_map {A} {B} f (z ∷ zs) x y m n =
+    subst (λ (ys : List B). Contains ys y) (sym (flat_map-cons f z zs))
+    (elim (Contains-append_cases (z ∷ []) zs x m) [
+      | inl one ↦ Contains-append_left (f z) (flat_map f zs) y (subst (λ (w : A). Contains (f w) y) (only z x one) n)
+      | inr k ↦ Contains-append_right (f z) (flat_map f zs) y (in_flat_map f zs x y k n)
+    ])

@@ -9,15 +9,9 @@ use Rattle.dl_lit.specs.Literal.{tagged, literal_eq}
 use Rattle.dl_lit.specs.Order.{literal_eq-Decides}
 use Rattle.dl_theory.specs.Derivations.{Follows}
 use Rattle.dl_theory.specs.Verdicts.{needs}
+use Rattle.dl_theory.proofs.Needs.{needs_itself}
 use Rattle.dl_net.specs.Numbers.{NetLists, no_literal, literal_at}
 use Rattle.dl_fill.specs.Before.{Before, tag_of, IsExact}
-
--- each family needs itself
-pub needs_itself : (f : Family) → Contains (needs f) f
-needs_itself Definite = (0, omega arith, refl)
-needs_itself Blocking = (1, omega arith, refl)
-needs_itself Propagating = (1, omega arith, refl)
-needs_itself Support = (2, omega arith, refl)
 
 -- a literal is found at its number
 pub found : (N : NetLists) (q : Literal) (n : ℕ) → position (literal_eq q) N.names ≡ Some n → (n < length N.names) × (literal_at N n ≡ q)

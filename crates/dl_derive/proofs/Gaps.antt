@@ -21,7 +21,8 @@ use Rattle.dl_net.specs.Numbers.{NetLists, IsNumbered, number, literal_at}
 use Rattle.dl_fill.specs.Before.{Before, tag_of, IsExact}
 use Rattle.dl_fill.proofs.Links.{number_finds, number_inside}
 use Rattle.dl_fill.proofs.Gating.{known}
-use Rattle.dl_derive.proofs.Spread.{all_flat_map, in_flat_map}
+use Rattle.dl_base.proofs.Members.{in_flat_map}
+use Rattle.dl_derive.proofs.Spread.{all_flat_map}
 use Rattle.dl_derive.specs.Back.{IsBack}
 use Rattle.dl_derive.proofs.Resting.{back_named}
 use Rattle.dl_derive.specs.Gap.{open_tag, open_family, open_number, open_members}

@@ -1,10 +1,9 @@
 -- What a function gives for the members of a list.
-use Rattle.std.proofs.Common.{List, [], ◌∷◌, inl, inr, sym, subst, refl, arith}
+use Rattle.std.proofs.Common.{List, [], ◌∷◌, sym, subst, refl, arith}
 use Rattle.std.specs.Prelude.{All, Contains}
 use Rattle.std.specs.List.{flat_map}
 use Rattle.std.proofs.lemmas.List.Concat.{flat_map-cons}
-use Rattle.std.proofs.lemmas.List.Elements.{All-nil, All-append, Contains-append_cases, Contains-append_left, Contains-append_right}
-use Rattle.dl_base.proofs.Members.{only}
+use Rattle.std.proofs.lemmas.List.Elements.{All-nil, All-append, Contains-append_right}
 
 module _ {A B : Type 0} (f : A → List B) where
   pub all_flat_map : (P : B → Type 0) (xs : List A) → ((x : A) → Contains xs x → All P (f x)) → All P (flat_map f xs)
@@ -12,12 +11,3 @@ module _ {A B : Type 0} (f : A → List B) where
   all_flat_map P (x ∷ xs) h =
       subst (λ (ys : List B). All P ys) (sym (flat_map-cons f x xs))
       (All-append P (f x) (flat_map f xs) (h x (0, omega arith, refl)) (all_flat_map P xs (λ y m. h y (Contains-append_right (x ∷ []) xs y m))))
-
-  pub in_flat_map : (xs : List A) (x : A) (y : B) → Contains xs x → Contains (f x) y → Contains (flat_map f xs) y
-  in_flat_map [] x y m n = absurd (omega (arith, m.1))
-  in_flat_map (z ∷ zs) x y m n =
-      subst (λ (ys : List B). Contains ys y) (sym (flat_map-cons f z zs))
-      (elim (Contains-append_cases (z ∷ []) zs x m) [
-        | inl one ↦ Contains-append_left (f z) (flat_map f zs) y (subst (λ (w : A). Contains (f w) y) (only z x one) n)
-        | inr k ↦ Contains-append_right (f z) (flat_map f zs) y (in_flat_map zs x y k n)
-      ])

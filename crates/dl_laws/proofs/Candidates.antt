@@ -5,11 +5,10 @@ use Rattle.std.specs.Bool.{Decides}
 use Rattle.std.specs.List.{list_any, flat_map}
 use Rattle.std.specs.Set.{is_member}
 use Rattle.std.proofs.lemmas.Bool.Decides.{Decides-or}
-use Rattle.std.proofs.lemmas.List.Concat.{flat_map-cons}
 use Rattle.std.proofs.lemmas.List.Folds.{Any-from_list_any, list_any-from_Any}
 use Rattle.std.proofs.lemmas.Map.Made.{is_member-Decides}
-use Rattle.std.proofs.lemmas.List.Elements.{Contains-append_cases, Contains-append_left, Contains-append_right, Contains-get_or}
-use Rattle.dl_base.proofs.Members.{only, any_more, Contains-mapped}
+use Rattle.std.proofs.lemmas.List.Elements.{Contains-append_left, Contains-append_right, Contains-get_or}
+use Rattle.dl_base.proofs.Members.{any_more, Contains-mapped, in_flat_map}
 use Rattle.dl_lit.specs.declared.literal.Literal.{Literal}
 use Rattle.dl_lit.specs.declared.literal.Tagged.{Tagged}
 use Rattle.dl_lit.specs.declared.literal.Family.{Family}
@@ -20,16 +19,6 @@ use Rattle.dl_theory.specs.declared.rule.Rule.{Rule}
 use Rattle.dl_theory.specs.Lists.{TheoryLists}
 use Rattle.dl_theory.specs.Listings.{Occurs, Mentions}
 use Rattle.dl_theory.proofs.Closure.{complement_twice}
-
--- what f makes of a member
-in_flat_map : {A B : Type 0} (f : A → List B) (xs : List A) (x : A) (y : B) → Contains xs x → Contains (f x) y → Contains (flat_map f xs) y
-in_flat_map f [] x y m n = absurd (omega (arith, m.1))
-in_flat_map {A} {B} f (z ∷ zs) x y m n =
-    subst (λ (ys : List B). Contains ys y) (sym (flat_map-cons f z zs))
-    (elim (Contains-append_cases (z ∷ []) zs x m) [
-      | inl one ↦ Contains-append_left (f z) (flat_map f zs) y (subst (λ (w : A). Contains (f w) y) (only z x one) n)
-      | inr k ↦ Contains-append_right (f z) (flat_map f zs) y (in_flat_map f zs x y k n)
-    ])
 
 abbrev of_rule : Rule → List Literal
 of_rule r = r.head ∷ r.body

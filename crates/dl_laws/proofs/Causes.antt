@@ -9,6 +9,7 @@ use Rattle.dl_theory.specs.declared.edit.EditRefusal.{EditRefusal}
 use Rattle.dl_theory.specs.declared.edit.EditRefusal.TheVariants.{LabelThere, NoLabel, FactThere, NoFact, PairThere, NoPair, Cycle, RulesFull, FactsFull, PairsFull}
 use Rattle.dl_theory.specs.Lists.{TheoryLists, labels}
 use Rattle.dl_theory.specs.Edits.{HasLabel, ClosesCycle, IsAccepted, IsRefused}
+use Rattle.dl_theory.proofs.Causes.{never_both}
 use Rattle.dl_theory.proofs.Deciding.{literal_in}
 use Rattle.dl_laws.specs.Edits.{IsOneCause, EditsAreDecided}
 use Rattle.dl_laws.proofs.Reaching.{label_in, pair_in, closes_or_not}
@@ -105,28 +106,6 @@ ordered_one T (AddPair p) =
     (first_one _ _ _ (is_one PairsFull) none_one))))
 ordered_one T (DropPair p) = first_one _ _ _ (is_one NoPair) none_one
 
--- an edit that is accepted has none of the causes
-
-never : (T : TheoryLists) (e : Edit) (x : EditRefusal) → IsAccepted T e → Ordered T e x → ⊥
-never T (AddRule r) x a h = elim h [ inl there ↦ a.0 there.0 | inr h ↦ elim h.1 [ inl full ↦ absurd (omega (arith, a.1, full.0)) | inr h ↦ h.1 ] ]
-never T (DropRule l) x a h = elim h [ inl none ↦ none.0 a | inr h ↦ h.1 ]
-never T (AddFact q) x a h = elim h [ inl there ↦ a.0 there.0 | inr h ↦ elim h.1 [ inl full ↦ absurd (omega (arith, a.1, full.0)) | inr h ↦ h.1 ] ]
-never T (DropFact q) x a h = elim h [ inl none ↦ none.0 a | inr h ↦ h.1 ]
-never T (AddPair p) x a h = elim h [
-  | inl none ↦ none.0 a.0
-  | inr h ↦ elim h.1 [
-    | inl none ↦ none.0 a.1
-    | inr h ↦ elim h.1 [
-      | inl there ↦ a.2 there.0
-      | inr h ↦ elim h.1 [
-        | inl closes ↦ a.3 closes.0
-        | inr h ↦ elim h.1 [ inl full ↦ absurd (omega (arith, a.4, full.0)) | inr h ↦ h.1 ]
-      ]
-    ]
-  ]
-]
-never T (DropPair p) x a h = elim h [ inl none ↦ none.0 a | inr h ↦ h.1 ]
-
 -- each edit is accepted or refused
 
 abbrev Outcome : TheoryLists → Edit → Type 0
@@ -168,6 +147,6 @@ decide T (DropPair p) = elim (pair_in T.pairs p) [ inl there ↦ inl there | inr
 pub edits_are_decided : (T : TheoryLists) → EditsAreDecided T
 edits_are_decided T = record {
   decided = decide T;
-  never_both = λ e x accepted refused. never T e x accepted (in_order T e x refused);
+  never_both = never_both T;
   one_cause = λ e x y h k. ordered_one T e x y (in_order T e x h) (in_order T e y k);
 }

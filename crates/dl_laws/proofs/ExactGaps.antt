@@ -15,17 +15,11 @@ use Rattle.dl_theory.specs.Lists.{TheoryLists}
 use Rattle.dl_theory.specs.Conditions.{Meets}
 use Rattle.dl_theory.specs.Derivations.{Follows}
 use Rattle.dl_theory.specs.Verdicts.{Reaches, Back, needs, IsExactGap}
+use Rattle.dl_theory.proofs.Needs.{needs_itself}
 use Rattle.dl_theory.proofs.Within.{meets_more}
 use Rattle.dl_theory.proofs.Finite.{meets_rests}
 use Rattle.dl_theory.proofs.Closure.{follows_over, back_closed}
 use Rattle.dl_laws.specs.Conclusions.{ExactGapsAreGaps}
-
--- a family needs itself
-own : (f : Family) → Contains (needs f) f
-own Definite = (0, omega arith, refl)
-own Blocking = (1, omega arith, refl)
-own Propagating = (1, omega arith, refl)
-own Support = (2, omega arith, refl)
 
 definite_first : (f : Family) → Contains (needs f) Definite
 definite_first Definite = (0, omega arith, refl)
@@ -89,7 +83,7 @@ module _ (T : TheoryLists) where
 
     some : (¬ Follows T (tagged true f q)) → members ≢ []
     some fails e =
-        let m : Contains members (tagged true f q) = listed.complete (tagged true f q) ((Reaches.start q refl, own f), fails) in
+        let m : Contains members (tagged true f q) = listed.complete (tagged true f q) ((Reaches.start q refl, needs_itself f), fails) in
         let none : Contains [] (tagged true f q) = subst (λ (xs : List Tagged). Contains xs (tagged true f q)) e m in
         absurd (omega (arith, none.1))
 

@@ -59,6 +59,7 @@ impl Marks {
         ensures steps { OnOk result (steps.new ≡ steps.old + 8 * (len - places self.old)) }
         ensures same_len { OnErr result (places self.new ≡ places self.old) }
         ensures same { OnErr result ((t : Tag) (n : ℕ) → marked self.new t n ≡ marked self.old t n) }
+        ensures same_owned { OnErr result ((n : ℕ) → is_owned self.new n ≡ is_owned self.old n) }
         ensures no_steps { OnErr result (steps.new ≡ steps.old) }
     {
         let old = self.bytes.len();
@@ -75,6 +76,7 @@ impl Marks {
         ensures same { (t : Tag) (n : ℕ) → marked self.new t n ≡ marked self.old t n }
         ensures owned { OnOk result (IsTrue (is_owned self.new number)) }
         ensures still_owned { OnOk result ((n : ℕ) → IsTrue (is_owned self.old n) → IsTrue (is_owned self.new n)) }
+        ensures same_owned { OnErr result ((n : ℕ) → is_owned self.new n ≡ is_owned self.old n) }
     {
         // No bytes are shared with other marks, so all numbers are owned at once.
         let _ = number;
@@ -122,6 +124,7 @@ impl Marks {
         ensures len { places self.new ≡ places self.old }
         ensures same { (t : Tag) (n : ℕ) → marked self.new t n ≡ marked self.old t n }
         ensures frozen { OnOk result (IsFrozen self.new) }
+        ensures same_owned { OnErr result ((n : ℕ) → is_owned self.new n ≡ is_owned self.old n) }
     {
         self.owned = false;
         Ok(())

@@ -1,15 +1,14 @@
 -- A file loads as one theory, or it does not load.
-use Rattle.std.proofs.Common.{◌≡◌, ℕ, ◌+◌, true, false, List, [], ◌∷◌, ◌++◌, IsTrue, length, refl, sym, ap, subst, ◌∙◌, arith, inl, inr}
+use Rattle.std.proofs.Common.{◌≡◌, ℕ, ◌+◌, true, false, List, [], ◌∷◌, ◌++◌, IsTrue, length, refl, sym, ap, subst, ◌∙◌}
 use Rattle.std.specs.Prelude.{Result, Ok, Err, MatchResult, IfOk, IfErr, IsErr}
 use Rattle.std.specs.List.{list_all}
 use Rattle.dl_lit.specs.Name.{begins_name, continues_name, is_name}
 use Rattle.dl_theory.specs.declared.rule.Kind.TheVariants.{Strict, Defeasible, Defeater}
 use Rattle.dl_theory.specs.declared.edit.Edit.{Edit}
-use Rattle.dl_theory.specs.declared.edit.Edit.TheVariants.{AddRule, DropRule, AddFact, DropFact, AddPair, DropPair}
 use Rattle.dl_theory.specs.declared.edit.EditRefusal.{EditRefusal}
-use Rattle.dl_theory.specs.declared.edit.EditRefusal.TheVariants.{LabelThere, NoLabel, FactThere, NoFact, PairThere, NoPair, Cycle, RulesFull, FactsFull, PairsFull}
 use Rattle.dl_theory.specs.Lists.{TheoryLists, no_lists}
-use Rattle.dl_theory.specs.Edits.{after_edit, after_edits, AreAccepted, IsAccepted, IsRefused}
+use Rattle.dl_theory.specs.Edits.{after_edit, after_edits, AreAccepted, IsAccepted}
+use Rattle.dl_theory.proofs.Causes.{never_both}
 use Rattle.dl_read.specs.declared.file.ReadStop.{ReadStop}
 use Rattle.dl_read.specs.declared.file.ReadStop.TheVariants as stop
 use Rattle.dl_read.specs.declared.statement.Statement.{Statement}
@@ -90,25 +89,6 @@ no_first_stop lines ss x h i =
 
 -- an edit is accepted or refused
 
-pub exclusive : (T : TheoryLists) (e : Edit) (x : EditRefusal) → IsAccepted T e → IsRefused T e x → ⊥
-exclusive T (AddRule r) (LabelThere l) a h = a.0 h.1
-exclusive T (AddRule r) RulesFull a h = absurd (omega (arith, a.1, h.1))
-exclusive T (AddRule r) _ a h = absurd h
-exclusive T (DropRule l) (NoLabel m) a h = h.1 a
-exclusive T (DropRule l) _ a h = absurd h
-exclusive T (AddFact q) FactThere a h = a.0 h
-exclusive T (AddFact q) FactsFull a h = absurd (omega (arith, a.1, h.1))
-exclusive T (AddFact q) _ a h = absurd h
-exclusive T (DropFact q) NoFact a h = h a
-exclusive T (DropFact q) _ a h = absurd h
-exclusive T (AddPair p) (NoLabel l) a h = elim h [ inl u ↦ u.1 a.0 | inr v ↦ v.2 a.1 ]
-exclusive T (AddPair p) PairThere a h = a.2 h.2
-exclusive T (AddPair p) (Cycle path) a h = a.3 (path, h.3)
-exclusive T (AddPair p) PairsFull a h = absurd (omega (arith, a.4, h.4))
-exclusive T (AddPair p) _ a h = absurd h
-exclusive T (DropPair p) NoPair a h = h a
-exclusive T (DropPair p) _ a h = absurd h
-
 -- what is accepted after a front
 accepted_at : (T : TheoryLists) (es : List Edit) (e : Edit) (fs : List Edit) → AreAccepted T (es ++ e ∷ fs) → IsAccepted (after_edits T es) e
 accepted_at T [] e fs h = h.0
@@ -118,7 +98,7 @@ no_refusal : (ps : List Placed) (T : TheoryLists) (k : ℕ) (x : EditRefusal) �
 no_refusal ps T k x m r =
     let all : AreAccepted no_lists (edits r.before ++ r.refused.edit ∷ edits r.after) =
     subst (λ (es : List Edit). AreAccepted no_lists es) (ap edits r.order ∙ edits-append r.before (r.refused ∷ r.after)) m.accepted in
-    exclusive (after_edits no_lists (edits r.before)) r.refused.edit x (accepted_at no_lists (edits r.before) r.refused.edit (edits r.after) all) r.cause
+    never_both (after_edits no_lists (edits r.before)) r.refused.edit x (accepted_at no_lists (edits r.before) r.refused.edit (edits r.after) all) r.cause
 
 -- the theory of a file
 

@@ -16,3 +16,5 @@ pub mod Inclusions
 pub mod Consistency
 pub mod Unmentioned
 pub mod Marks
+pub mod Needs
+pub mod Causes
