@@ -4,10 +4,11 @@ ghost use Rattle.std.specs.Prelude.{◌≡◌, ◌<◌};
 
 use crate::drafts::{edition, saturated};
 use crate::editions::{derivation_of, gap_of};
-use crate::texts::{AMBIGUOUS, PENGUIN, literal_of, tagged_of, theory_of};
+use crate::texts::{AMBIGUOUS, PENGUIN, tagged_of, theory_of};
 use dl_check::{CheckStop, Checker};
 use dl_lit::{Family, Literal, Tagged};
 use dl_marks::Steps;
+use dl_read::read_literal;
 use dl_theory::{Answer, TaggedList, Theory, Verdict};
 use std::alloc::Global;
 use std::marker::Brand;
@@ -311,7 +312,7 @@ fn counted_answer<L: Ledger>(
 }
 
 fn answer(rt: &impl Abort, alloc: Global, theory: &Theory, family: Family, text: &str) -> Answer {
-    let literal = literal_of(rt, alloc, text);
+    let literal = read_literal(alloc, text.as_bytes()).expect(rt, "a literal");
     counted_answer::<Brand>(rt, alloc, theory, family, &literal, Blank::new(1))
 }
 

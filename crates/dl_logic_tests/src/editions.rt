@@ -1,10 +1,11 @@
 //! What editions say, as text.
 
-use crate::texts::{literal_of, sink};
+use crate::texts::sink;
 use dl_edition::{Conclusion, Held};
 use dl_io::{MemorySink, write_all};
 use dl_lit::{Family, LiteralRef, Tagged};
 use dl_print::{write_conclusion, write_tagged};
+use dl_read::read_literal;
 use dl_theory::{Answer, Certificate, TaggedList, Verdict};
 use std::alloc::Global;
 use std::process::Abort;
@@ -64,7 +65,7 @@ pub(crate) fn expect_copy(rt: &impl Abort, alloc: Global, held: &Held, lines: us
 }
 
 fn ask(rt: &impl Abort, alloc: Global, held: &Held, family: Family, text: &str) -> Answer {
-    let literal = literal_of(rt, alloc, text);
+    let literal = read_literal(alloc, text.as_bytes()).expect(rt, "a literal");
     let verdict = held.verdict(family, &literal);
     let answer = held.ask(family, &literal).expect(rt, "an answer");
     assert!(rt; answer.verdict == verdict);

@@ -1,7 +1,8 @@
 //! The lines of entries.
 
-use crate::texts::{edit_of, name, sink};
+use crate::texts::{edit_of, sink};
 use dl_calls::{Call, Entry, Reply, write_entry, write_reply};
+use dl_lit::Name;
 use dl_theory::{EditRefusal, Path};
 use std::alloc::Global;
 use std::process::Abort;
@@ -28,7 +29,8 @@ fn expect_edit(rt: &impl Abort, alloc: Global, seat: u64, edit: &str, reply: Rep
 fn path_of(rt: &impl Abort, alloc: Global, labels: &[&str]) -> Path {
     let mut path = Path::make(alloc);
     for label in labels {
-        let pushed = path.push(name(rt, alloc, label));
+        let name = Name::make(alloc, label.as_bytes()).expect(rt, "a name");
+        let pushed = path.push(name);
         assert!(rt; pushed.is_ok());
     }
     path
@@ -44,7 +46,8 @@ fn expect_edits(rt: &impl Abort, alloc: Global) {
     expect_edit(rt, alloc, 0, "add r: => p", made, "0 | add r: => p | ok\n");
     let line = "12 | add r > s | refused cycle s t r\n";
     expect_edit(rt, alloc, 12, "add r > s", cycle(rt, alloc), line);
-    let missing = Reply::EditRefused(EditRefusal::NoLabel(name(rt, alloc, "r")));
+    let label = Name::make(alloc, b"r").expect(rt, "a name");
+    let missing = Reply::EditRefused(EditRefusal::NoLabel(label));
     let line = "1 | drop r | refused unknown r\n";
     expect_edit(rt, alloc, 1, "drop r", missing, line);
 }

@@ -1,5 +1,5 @@
-//! Tests of what needs no threads: literals, orders, streams, lines, theories, marks, numbers, texts, requests, certificates, drafts,
-//! editions, boards and journals.
+//! Tests of what concludes, and of what keeps it: rooms, numbered theories, drafts, certificates and their checker, editions, journals and
+//! boards. None of them needs threads.
 //!
 //! They are apart from what they test, since a crate with tests is proved twice, with them and without. Each file is about one subject.
 //! `texts` reads what the others need from text, and `editions` compares what editions say.
@@ -18,30 +18,8 @@ mod editions;
 #[cfg(test)]
 mod journals;
 #[cfg(test)]
-mod lines;
-#[cfg(test)]
-mod literals;
-#[cfg(test)]
-mod marks;
-#[cfg(test)]
 mod numbered;
-#[cfg(test)]
-mod orders;
-#[cfg(test)]
-mod packed;
-#[cfg(test)]
-mod pairs;
-#[cfg(test)]
-mod reading;
-#[cfg(test)]
-mod regions;
-#[cfg(test)]
-mod requests;
 #[cfg(test)]
 mod rooms;
 #[cfg(test)]
-mod streams;
-#[cfg(test)]
 mod texts;
-#[cfg(test)]
-mod theories;

@@ -1,7 +1,8 @@
 //! A theory that is loaded into numbers, and what a fill reads of it.
 
-use crate::texts::{edit_of, literal_of};
+use crate::texts::edit_of;
 use dl_net::{Graph, Link, NumberedNet, NumberedTheory};
+use dl_read::read_literal;
 use dl_theory::{Edit, Loading};
 use std::alloc::Global;
 use std::process::Abort;
@@ -34,8 +35,8 @@ fn load(rt: &impl Abort, alloc: Global, theory: &mut NumberedTheory) {
 }
 
 fn number(rt: &impl Abort, alloc: Global, graph: &Graph<'_>, atom: &str) -> usize {
-    let atom = literal_of(rt, alloc, atom);
-    graph.find(&atom).expect(rt, "a number")
+    let literal = read_literal(alloc, atom.as_bytes()).expect(rt, "a literal");
+    graph.find(&literal).expect(rt, "a number")
 }
 
 fn expect_literals(rt: &impl Abort, graph: &Graph<'_>, penguin: usize, fly: usize) {

@@ -1,9 +1,9 @@
 //! Theories that several tests use, what is read from text, and a sink that text is written to.
 
 use dl_io::MemorySink;
-use dl_lit::{Literal, Name, Tagged};
+use dl_lit::Tagged;
 use dl_net::NumberedTheory;
-use dl_read::{read_edit, read_file, read_into, read_literal, read_tagged};
+use dl_read::{read_edit, read_file, read_into, read_tagged};
 use dl_theory::{Edit, Theory};
 use std::alloc::Global;
 use std::process::Abort;
@@ -32,28 +32,11 @@ pub(crate) fn numbered_of(rt: &impl Abort, alloc: Global, text: &str) -> Numbere
 }
 
 pub(crate) fn edit_of(rt: &impl Abort, alloc: Global, text: &str) -> Edit {
-    match read_edit(alloc, text.as_bytes()) {
-        Ok(edit) => edit,
-        Err(_) => panic!(rt; "no edit"),
-    }
-}
-
-pub(crate) fn literal_of(rt: &impl Abort, alloc: Global, text: &str) -> Literal {
-    match read_literal(alloc, text.as_bytes()) {
-        Ok(literal) => literal,
-        Err(_) => panic!(rt; "no literal"),
-    }
+    read_edit(alloc, text.as_bytes()).expect(rt, "an edit")
 }
 
 pub(crate) fn tagged_of(rt: &impl Abort, alloc: Global, text: &str) -> Tagged {
-    match read_tagged(alloc, text.as_bytes()) {
-        Ok(tagged) => tagged,
-        Err(_) => panic!(rt; "no tagged literal"),
-    }
-}
-
-pub(crate) fn name(rt: &impl Abort, alloc: Global, text: &str) -> Name {
-    Name::make(alloc, text.as_bytes()).expect(rt, "a name")
+    read_tagged(alloc, text.as_bytes()).expect(rt, "a tagged literal")
 }
 
 /// What is written to it can be read back.

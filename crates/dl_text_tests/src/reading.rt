@@ -1,6 +1,5 @@
 //! Texts and what is read from them, shown by their canonical text.
 
-use crate::texts::sink;
 use dl_io::{Failed, MemorySink, write_all};
 use dl_print::{
     write_edit, write_literal, write_number, write_refusal, write_tagged, write_theory,
@@ -40,7 +39,7 @@ fn write_read_stop(sink: &mut MemorySink, stop: &ReadStop) -> Result<(), Failed>
 }
 
 fn shown_file(alloc: Global, file: &[u8]) -> MemorySink {
-    let mut sink = sink(alloc);
+    let mut sink = MemorySink::make(alloc, Vec::new(alloc));
     match read_file(alloc, file) {
         Ok(theory) => {
             let _ = write_theory(&mut sink, &theory);
@@ -53,7 +52,7 @@ fn shown_file(alloc: Global, file: &[u8]) -> MemorySink {
 }
 
 fn shown_edit(alloc: Global, line: &[u8]) -> MemorySink {
-    let mut sink = sink(alloc);
+    let mut sink = MemorySink::make(alloc, Vec::new(alloc));
     match read_edit(alloc, line) {
         Ok(edit) => {
             let _ = write_edit(&mut sink, &edit);
@@ -66,7 +65,7 @@ fn shown_edit(alloc: Global, line: &[u8]) -> MemorySink {
 }
 
 fn shown_tagged(alloc: Global, line: &[u8]) -> MemorySink {
-    let mut sink = sink(alloc);
+    let mut sink = MemorySink::make(alloc, Vec::new(alloc));
     match read_tagged(alloc, line) {
         Ok(tagged) => {
             let _ = write_tagged(&mut sink, &tagged);
@@ -79,7 +78,7 @@ fn shown_tagged(alloc: Global, line: &[u8]) -> MemorySink {
 }
 
 fn shown_literal(alloc: Global, line: &[u8]) -> MemorySink {
-    let mut sink = sink(alloc);
+    let mut sink = MemorySink::make(alloc, Vec::new(alloc));
     match read_literal(alloc, line) {
         Ok(literal) => {
             let _ = write_literal(&mut sink, &literal);

@@ -2,7 +2,7 @@
 
 ghost use Rattle.std.specs.Prelude.{◌<◌, length};
 
-use crate::texts::literal_of;
+use crate::literals::literal_of;
 use dl_lit::Literal;
 use dl_names::{AtomPairs, PairSet, WholePairs};
 use std::alloc::Global;

@@ -3,8 +3,8 @@
 ghost use Rattle.std.specs.Prelude.{◌≤◌, All, length};
 ghost use Rattle.dl_theory.specs.Pairs.{IsWithin};
 
-use crate::texts::{edit_of, name, tagged_of};
 use dl_lit::{Literal, Name, NameSet, name_set};
+use dl_read::{read_edit, read_tagged};
 use dl_theory::{
     Body, Edit, EditRefusal, EditStop, Pair, PairsStop, Path, RulePairs, TaggedList, Theory,
 };
@@ -16,8 +16,9 @@ type Row = (&'static str, &'static str);
 
 /// Makes the edits in order, and compares each answer.
 fn expect_all(rt: &impl Abort, alloc: Global, theory: &mut Theory, rows: &[Row]) {
-    for (edit, answer) in rows {
-        expect(rt, alloc, theory, edit_of(rt, alloc, edit), answer);
+    for (text, answer) in rows {
+        let edit = read_edit(alloc, text.as_bytes()).expect(rt, "an edit");
+        expect(rt, alloc, theory, edit, answer);
     }
 }
 
@@ -102,6 +103,10 @@ fn expect_places(rt: &impl Abort, pairs: &RulePairs, want: &[(usize, usize)]) {
 fn expect_rules(rt: &impl Abort, theory: &Theory, want: &[(usize, usize)]) {
     let pairs = theory.rule_pairs().expect(rt, "the pairs");
     expect_places(rt, &pairs, want);
+}
+
+fn name(rt: &impl Abort, alloc: Global, text: &str) -> Name {
+    Name::make(alloc, text.as_bytes()).expect(rt, "a name")
 }
 
 const LABELS: [&str; 3] = ["r1", "r2", "r3"];
@@ -318,7 +323,8 @@ fn lists_keep_what_is_pushed(rt: HostRuntime) {
     let mut path = Path::make(alloc);
     assert!(rt; path.push(name(&rt, alloc, "r")).is_ok());
     let mut tags = TaggedList::make(alloc);
-    assert!(rt; tags.push(tagged_of(&rt, alloc, "+D q")).is_ok());
+    let tagged = read_tagged(alloc, b"+D q").expect(&rt, "a tagged literal");
+    assert!(rt; tags.push(tagged).is_ok());
     let mut body = Body::make(alloc);
     assert!(rt; body.reserve(5).is_ok() && body.len() == 0);
     assert!(rt; body.push(fact(&rt, alloc, "p")).is_ok());

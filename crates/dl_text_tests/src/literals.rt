@@ -1,9 +1,14 @@
 //! Names and literals, each call once.
 
-use crate::texts::literal_of;
 use dl_lit::{Family, Literal, LiteralRef, Name, NameStop, Tagged};
+use dl_read::read_literal;
 use std::alloc::Global;
 use std::process::Abort;
+
+/// The literal that a text says.
+pub(crate) fn literal_of(rt: &impl Abort, alloc: Global, text: &str) -> Literal {
+    read_literal(alloc, text.as_bytes()).expect(rt, "a literal")
+}
 
 /// A text, and whether it is spelled as a name.
 type Spelled = (&'static [u8], bool);

@@ -1,6 +1,5 @@
 //! What lines of a session ask for.
 
-use crate::texts::sink;
 use dl_io::{Failed, MemorySink, write_all};
 use dl_lit::{Family, Memory};
 use dl_print::{write_edit, write_literal, write_number};
@@ -59,7 +58,7 @@ fn write_asked(sink: &mut MemorySink, asked: &Result<Asked, Memory>) -> Result<(
 }
 
 fn shown(alloc: Global, line: &[u8]) -> MemorySink {
-    let mut sink = sink(alloc);
+    let mut sink = MemorySink::make(alloc, Vec::new(alloc));
     let asked = read_request(alloc, line);
     let _ = write_asked(&mut sink, &asked);
     sink
