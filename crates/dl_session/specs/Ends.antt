@@ -2,7 +2,7 @@
 use Rattle.std.specs.Prelude.{◌≡◌, ◌⊎◌, ℕ, ◌<◌, ◌≤◌, List, [], ◌∷◌, ◌++◌, length, Option}
 use Rattle.std.specs.Io.KnownBytes.{prepend_known, append_known, IsAtEnd}
 use Rattle.dl_io.specs.Outside.{Rose}
-use Rattle.dl_io.specs.Streams.{IsFront}
+use Rattle.dl_io.specs.Streams.{IsFront, IsKnownFront}
 use Rattle.dl_theory.specs.Lists.{TheoryLists}
 use Rattle.dl_calls.specs.declared.entry.Entry.{Entry}
 use Rattle.dl_turn.specs.History.{StartsWith}
@@ -66,6 +66,13 @@ HasCause read read_now written written_now Done = (read_now ≡ read) × (writte
 HasCause read read_now written written_now ReadFault = Rose read read_now × (written_now ≡ written)
 HasCause read read_now written written_now WriteFault = (read_now ≡ read) × Rose written written_now
 HasCause read read_now written written_now Spent = (read_now ≡ read) × (written_now ≡ written)
+
+-- By an end, all that was written was handed on, or a front of it where the sink failed.
+abbrev pub HandsOnAll : Option (List ℕ) → Option (List ℕ) → End → Type 0
+HandsOnAll handed written Done = handed ≡ written
+HandsOnAll handed written ReadFault = handed ≡ written
+HandsOnAll handed written WriteFault = IsKnownFront handed written
+HandsOnAll handed written Spent = handed ≡ written
 
 -- a session: what it took of its source, what it wrote, the further entries of its seat, and its end over these
 pub record IsSession (source source_now sink sink_now : Option (List ℕ)) (seat seat_now : SeatLists) (end : End) : Type 0 where

@@ -14,7 +14,7 @@ use Rattle.dl_lines.specs.declared.reader.TheConstants.{LONGEST_LINE}
 use Rattle.dl_session.specs.declared.end.End.{End}
 use Rattle.dl_session.specs.declared.end.End.TheVariants.{Done, ReadFault, WriteFault, Spent}
 use Rattle.dl_session.specs.Answering.{Answers}
-use Rattle.dl_session.specs.Ends.{IsQuit}
+use Rattle.dl_session.specs.Ends.{HandsOnAll, IsQuit}
 use Rattle.dl_session.specs.Replies.{Replies}
 
 -- how a session ends where its lines ended so
@@ -30,6 +30,11 @@ Sends sink sink_now text (Some Done) = ⊥
 Sends sink sink_now text (Some ReadFault) = ⊥
 Sends sink sink_now text (Some WriteFault) = (front : List ℕ) × IsFront front text × (sink_now ≡ append_known sink front)
 Sends sink sink_now text (Some Spent) = ⊥
+
+-- all that was written was handed on, and so also while the session goes on
+abbrev pub HandsOnBy : Option (List ℕ) → Option (List ℕ) → Option End → Type 0
+HandsOnBy handed written None = handed ≡ written
+HandsOnBy handed written (Some end) = HandsOnAll handed written end
 
 -- the count of the sink rose only at a failure
 abbrev pub HasLineCause : ℕ → ℕ → Option End → Type 0

@@ -5,8 +5,8 @@ ghost use Rattle.dl_calls.specs.declared.entry.Entry.{Entry};
 ghost use Rattle.dl_edition.specs.Offices.{MayCall};
 ghost use Rattle.dl_lines.specs.declared.reader.TheConstants.{LONGEST_LINE};
 ghost use Rattle.dl_session.specs.Answering.{text_of};
-ghost use Rattle.dl_session.specs.Ends.{HasCause, IsSession};
-ghost use Rattle.dl_session.specs.Serving.{end_of, Sends, HasLineCause, ServesLine, ServesNext};
+ghost use Rattle.dl_session.specs.Ends.{HandsOnAll, HasCause, IsSession};
+ghost use Rattle.dl_session.specs.Serving.{end_of, Sends, HandsOnBy, HasLineCause, ServesLine, ServesNext};
 ghost use Rattle.dl_session.specs.Table.{Keeps};
 
 use crate::answer::answer;
@@ -26,6 +26,7 @@ use std::sync::Wait;
 /// Sends a reply. The session goes on, or ends where that failed.
 fn reply<P: Sink>(sink: &mut P, ready: &Ready) -> Option<End>
     ensures sends { Sends (P.written sink.old) (P.written sink.new) (text_of ready.now) result }
+    ensures handed { HandsOnBy (P.handed sink.new) (P.written sink.new) result }
     ensures cause { HasLineCause (P.faults sink.old) (P.faults sink.new) result }
     ensures name { P.name sink.new ≡ P.name sink.old }
 {
@@ -50,6 +51,7 @@ fn serve_line<R: Wait, O: Office, P: Sink>(
     ensures belongs { O.belongs office.now seat.new }
     ensures serves { (before : List Entry) → Keeps seat.old before table.old.editions
         → ServesLine seat.old seat.new before table.new.editions line.now (P.written sink.old) (P.written sink.new) result }
+    ensures handed { P.handed sink.old ≡ P.written sink.old → HandsOnBy (P.handed sink.new) (P.written sink.new) result }
     ensures cause { HasLineCause (P.faults sink.old) (P.faults sink.new) result }
     ensures name { P.name sink.new ≡ P.name sink.old }
 {
@@ -92,6 +94,7 @@ fn serve_next<R: Wait, O: Office, P: Sink>(
     ensures belongs { O.belongs office.now seat.new }
     ensures serves { (before : List Entry) → Keeps seat.old before room.old.table.editions
         → ServesNext seat.old seat.new before room.new.table.editions room.old.lines.line next (P.written sink.old) (P.written sink.new) (P.faults sink.old) (P.faults sink.new) result }
+    ensures handed { P.handed sink.old ≡ P.written sink.old → HandsOnBy (P.handed sink.new) (P.written sink.new) result }
     ensures lines { room.new.lines ≡ room.old.lines }
     ensures name { P.name sink.new ≡ P.name sink.old }
 {
@@ -118,6 +121,7 @@ pub fn serve_session<R: Wait, O: Office, I: Source, P: Sink>(
     requires may { MayCall seat.old }
     ensures belongs { O.belongs office.now seat.new }
     ensures session { IsSession (I.rest source.old) (I.rest source.new) (P.written sink.old) (P.written sink.new) seat.old seat.new result }
+    ensures handed { P.handed sink.old ≡ P.written sink.old → HandsOnAll (P.handed sink.new) (P.written sink.new) result }
     ensures cause { HasCause (I.faults source.old) (I.faults source.new) (P.faults sink.old) (P.faults sink.new) result }
     ensures source_name { I.name source.new ≡ I.name source.old }
     ensures sink_name { P.name sink.new ≡ P.name sink.old }

@@ -1,6 +1,6 @@
 //! Writing replies. It takes no memory.
 
-ghost use Rattle.std.specs.Prelude.{◌≡◌, ◌++◌, length};
+ghost use Rattle.std.specs.Prelude.{◌≡◌, ◌++◌, OnOk, length};
 ghost use Rattle.std.specs.List.{flat_map};
 ghost use Rattle.dl_io.specs.Outside.{HasCause};
 ghost use Rattle.dl_io.specs.Streams.{WritesAll};
@@ -186,6 +186,7 @@ fn write_ready<S: Sink>(sink: &mut S, ready: &Ready) -> Result<(), Failed>
 /// Writes a reply and hands it on. After a failure a front of it was written, maybe all.
 pub(crate) fn send<S: Sink>(sink: &mut S, ready: &Ready) -> Result<(), Failed>
     ensures bytes { WritesAll (S.written sink.old) (S.written sink.new) result (text_of ready.now) }
+    ensures handed { OnOk result (S.handed sink.new ≡ S.written sink.new) }
     ensures cause { HasCause (S.faults sink.old) (S.faults sink.new) result }
     ensures name { S.name sink.new ≡ S.name sink.old }
 {

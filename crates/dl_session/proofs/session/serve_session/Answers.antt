@@ -11,6 +11,7 @@ serving-init g c = record {
   belongs = c.requires.belongs;
   may = c.requires.may;
   so_far = so_far_none _ _ _ _ _ c.requires.may.within c.clear.ensures.lines c.clear.ensures.table;
+  handed = λ whole. whole;
   read_faults = refl;
   write_faults = refl;
   source_name = refl;
@@ -54,6 +55,7 @@ serving-preserved g c =
       may = may_call c.args.seat.now c.serve_next.new.seat so.entries c.requires.may so.advances;
       so_far = subst (λ (r : Reading). SoFar (g.I.Source.rest c.args.source.now) (g.I.Source.rest c.next_line-next.new.source) (g.P.Sink.written c.args.sink.now) (g.P.Sink.written c.serve_next.new.sink)
           c.args.seat.now c.serve_next.new.seat r c.serve_next.new.room.table.editions) lines so;
+      handed = λ whole. c.in_default.ensures.handed (c.serving.invariant.handed whole);
       read_faults = counts.0 ∙ c.serving.invariant.read_faults;
       write_faults = counts.1 ∙ c.serving.invariant.write_faults;
       source_name = c.next_line-next.ensures.name ∙ c.serving.invariant.source_name;
