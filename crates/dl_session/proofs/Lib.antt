@@ -8,3 +8,4 @@ mod Searched
 mod Seats
 mod Serving
 mod Sessions
+mod Staying

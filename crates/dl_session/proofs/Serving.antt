@@ -60,7 +60,7 @@ module _ (S U : List TheoryLists) (begins : StartsWith U S) where
   reply_more before asked.Variables used bytes h = h
   reply_more before asked.Form used bytes h = h
 
-  replies_more : (before : List Entry) (line : List ℕ) (used : List Entry) (bytes : List ℕ) → Replies S before line used bytes → Replies U before line used bytes
+  pub replies_more : (before : List Entry) (line : List ℕ) (used : List Entry) (bytes : List ℕ) → Replies S before line used bytes → Replies U before line used bytes
   replies_more before line used bytes (inl long) = inl long
   replies_more before line used bytes (inr (short, (x, asks, h))) = inr (short, (x, asks, reply_more before x used bytes h))
 

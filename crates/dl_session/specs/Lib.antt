@@ -1,5 +1,6 @@
 pub mod Answering
 pub mod Ends
+pub mod Laws
 pub mod Replies
 pub mod Seats
 pub mod Serving

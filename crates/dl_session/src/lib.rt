@@ -3,12 +3,14 @@
 //! `serve_session` is where to begin. It reads lines, calls an office from its seat, asks editions that it holds, and writes a reply to
 //! each request, until a line is `quit`, the input ends, a stream fails or the limit of bytes is read. `specs/Replies` says which reply a
 //! line has, by the history that the seat has seen and by the seat's own entries in it. `specs/Ends` says of each way to end what was
-//! read, answered and written by then. A reply is whole before its first byte is written, so want of memory is a reply of its own.
+//! read, answered and written by then, and that it was handed on. A reply is whole before its first byte is written, so want of memory is
+//! a reply of its own. The laws in `laws` say what stays so when the history goes on.
 #![tactic(auto)]
 
 mod answer;
 mod calls;
 mod end;
+mod laws;
 mod query;
 mod ready;
 mod session;
@@ -18,5 +20,6 @@ mod write;
 
 pub use dl_base::Memory;
 pub use end::End;
+pub use laws::{answers_stay, ends_stay, no_quit_is_answered};
 pub use session::serve_session;
 pub use workroom::Workroom;
