@@ -1,0 +1,4 @@
+use Rattle.dl_session_tests.proofs.serving.run_session.Given as goal
+
+abbrev pub ghosts-outcome_of : goal.ghosts-outcome_of
+ghosts-outcome_of g a = record { name = a.blank.name; parts = a.blank.parts }
