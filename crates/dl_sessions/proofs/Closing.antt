@@ -121,16 +121,16 @@ module _ (desk : TableId) (T : TheoryLists) where
     -- the last of sessions that ended, behind those before it
     pub serves_last : (base base_now : SeatLists) (streams : List A) (done front : List D) (d : D) (sessions : List B) (session : B) → EndsStay
         → done ≡ front ++ d ∷ [] → AllAt IsOf 0 streams done → ((first : List A) → AllAt IsOf 0 first front → Serves before after end T base first sessions)
-        → length sessions ≡ length front → StartsWith base_now.seen base.seen → StartsWith base_now.seen (ended_seat d).seen → base_now.olds ≡ base.olds ++ numbers_of (ended_seat d)
+        → length sessions ≡ length front → StartsWith base_now.seen base.seen → StartsWith base_now.seen (ended_seat d).seen → base_now ≡ record base { seen = base_now.seen; olds = base.olds ++ numbers_of (ended_seat d) }
         → after session ≡ ended_told d → end session ≡ ended_end d → Serves before after end T base_now streams (sessions ++ session ∷ [])
-    serves_last base base_now streams done front d sessions session stay e all earlier long seen seat_seen olds same_told same_end =
+    serves_last base base_now streams done front d sessions session stay e all earlier long seen seat_seen joined same_told same_end =
         let last = at_last IsOf 0 streams front d (subst (λ l. AllAt IsOf 0 streams l) e all) in
         let this : HasEnded desk T (0 + length sessions) (before last.last) (after session) (ended_seat d) (end session) =
         subst (λ n. HasEnded desk T (0 + n) (before last.last) (after session) (ended_seat d) (end session)) (sym long)
         (subst (λ o. HasEnded desk T (0 + length front) (before last.last) o (ended_seat d) (end session)) (sym same_told)
         (subst (λ o. HasEnded desk T (0 + length front) (before last.last) (ended_told d) (ended_seat d) o) (sym same_end) last.this)) in
         subst (λ l. Serves before after end T base_now l (sessions ++ session ∷ [])) (sym last.is)
-        (serves_more before after end base base_now (ended_seat d) last.front sessions last.last session stay (earlier last.front last.all) seen seat_seen olds this)
+        (serves_more before after end base base_now (ended_seat d) last.front sessions last.last session stay (earlier last.front last.all) seen seat_seen (ap (λ (s : SeatLists). s.olds) joined) this)
 
     -- no session
     pub serves_none : (base : SeatLists) (streams : List A) (done : List D) (sessions : List B) → done ≡ [] → sessions ≡ [] → AllAt IsOf 0 streams done

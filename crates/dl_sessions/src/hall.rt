@@ -80,7 +80,8 @@ impl<L: Ledger + Send + Sync> Hall<L> {
     }
 
     /// Serves a session with each pair of streams, all at once, each in a thread of its own. One whose thread cannot be started is
-    /// served by the caller. `Memory` comes before any session began, with the streams as they were. It may wait.
+    /// served by the caller. `Memory` comes before any session began, with the streams as they were. It may wait. The calls nest as deep
+    /// as there are sessions.
     pub fn serve<I: Source + Send + Drop, P: Sink + Send + Drop, R: Threads + Wait + Sync>(
         self,
         rt: &R,

@@ -33,9 +33,8 @@ struct Lists<'a, L: Ledger + Send + Sync, I: Source + Send + Drop, P: Sink + Sen
     back: Vec<(I, P)>,
 }
 
-/// Empty lists with room for so many sessions at a desk.
+/// Empty lists with room for so many sessions.
 fn lists_for<'a, L: Ledger + Send + Sync, I: Source + Send + Drop, P: Sink + Send + Drop>(
-    _desk: &'a Desk<L>,
     alloc: Global,
     count: usize,
 ) -> Result<Lists<'a, L, I, P>, Memory>
@@ -78,7 +77,7 @@ pub(crate) fn serve_at<
     ensures count { IfOk result (λ sessions. vec_len sessions ≡ vec_len streams) }
     ensures back { IfErr result (λ back. back.items ≡ streams.items) }
 {
-    let Ok(lists) = lists_for(desk, alloc, streams.len()) else {
+    let Ok(lists) = lists_for(alloc, streams.len()) else {
         drop(seats);
         drop(rooms);
         return Err(streams);

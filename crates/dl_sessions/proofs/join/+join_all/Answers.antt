@@ -1,4 +1,4 @@
-use Rattle.std.proofs.Common.{rules, ◌≡◌, [], refl, ap, arith}
+use Rattle.std.proofs.Common.{rules, ◌≡◌, [], refl, arith}
 use Rattle.dl_sessions.specs.Ending.{MayJoin}
 use Rattle.dl_sessions.specs.Served.{told}
 use Rattle.dl_sessions.proofs.Closing.{serves_none, serves_last}
@@ -32,4 +32,4 @@ returns-clause-served g t c T streams all =
     rw (c.push_reserved.ensures.items) (serves_last c.args.desk.now T (λ s. told s.0 s.1) (λ s. told s.source s.sink) (λ s. s.end) (λ d. told d.source d.sink) (λ d. d.seat) (λ d. d.end)
     c.join_all-sessions.new.base c.join.new.seat streams c.args.done.items c.pop.new.self.items c.in-Some.ended c.join_all-sessions.result.items _
     c.ends_stay.ensures c.in-Some.ensures.items all (c.join_all-sessions.ensures.served T) (omega (arith, c.join_all-sessions.ensures.count, c.join_all-sessions.result.ok, c.pop.new.self.ok)) c.join.ensures.both.0 c.join.ensures.both.1
-    (ap (λ s. s.olds) c.join.ensures.stays) refl refl)
+    c.join.ensures.stays refl refl)
