@@ -122,6 +122,7 @@ module _ (source source_now source_new sink sink_now : Option (List ℕ)) (seat 
     written = so.written;
     entries = so.entries;
     took = took_on;
+    within = (account_on line one).within;
     wrote = so.wrote;
     advances = so.advances;
     ends = inl (record { lines = so.lines; quit = line; first = first_lines line one; is_quit = quit; answered = so.answered });
@@ -136,6 +137,7 @@ module _ (source source_now source_new sink sink_now : Option (List ℕ)) (seat 
     written = so.written ++ front;
     entries = so.entries ++ answers.used;
     took = took_on;
+    within = (account_on line one).within;
     wrote = wrote ∙ ap (λ (known : Option (List ℕ)). append_known known front) so.wrote ∙ append_known-twice sink so.written front;
     advances = advances_on seat seat_now seat_new so.entries answers.used so.advances answers.advances;
     ends = record {
@@ -182,6 +184,7 @@ ends_now source source_now source_new sink sink_now seat seat_now old new how an
       written = so.written;
       entries = so.entries;
       took = told_more source source_now source_new so.taken next.piece so.took next.told;
+      within = account.within;
       wrote = so.wrote;
       advances = so.advances;
       ends = ends_by taken so.written source_new seat_now so.entries so.lines new how account ended so.answered;
@@ -195,6 +198,7 @@ ends_before source source_now sink sink_now seat seat_now reading how l so ended
   written = so.written;
   entries = so.entries;
   took = so.took;
+  within = so.account.within;
   wrote = so.wrote;
   advances = so.advances;
   ends = ends_by so.taken so.written source_now seat_now so.entries so.lines reading how so.account ended so.answered;

@@ -80,6 +80,7 @@ pub record IsSession (source source_now sink sink_now : Option (List ℕ)) (seat
   pub written : List ℕ
   pub entries : List Entry
   pub took : source ≡ prepend_known taken source_now
+  pub within : length taken ≤ MOST_BYTES
   pub wrote : sink_now ≡ append_known sink written
   pub advances : Advances seat seat_now entries
   pub ends : IsEnd (editions_of seat_now) entries taken source_now written end
