@@ -69,6 +69,7 @@ module _ (desk : TableId) (T : TheoryLists) where
           entries = s.entries;
           own = sym own.0;
           took = s.took;
+          within = s.within;
           wrote = s.wrote;
           ends = stay (editions_of seat) (state_after T history).editions (ended_editions history legal seen) s.entries s.taken new.rest s.written end s.ends;
           handed = h.by.handed;

@@ -1,5 +1,5 @@
 -- What sessions at one board have done by the end of all of them.
-use Rattle.std.specs.Prelude.{◌≡◌, ℕ, ◌+◌, List, [], ◌∷◌, length, Option}
+use Rattle.std.specs.Prelude.{◌≡◌, ℕ, ◌+◌, ◌≤◌, List, [], ◌∷◌, length, Option}
 use Rattle.std.specs.List.{range_with_len}
 use Rattle.std.specs.Io.KnownBytes.{prepend_known, append_known}
 use Rattle.dl_theory.specs.Lists.{TheoryLists}
@@ -8,6 +8,7 @@ use Rattle.dl_calls.specs.declared.call.Call.TheVariants.{Enrol}
 use Rattle.dl_calls.specs.declared.reply.Reply.TheVariants.{Enrolled}
 use Rattle.dl_calls.specs.declared.entry.Entry.{Entry}
 use Rattle.dl_calls.specs.Histories.{IsLegal, state_after, entries_of, enrolled_seats}
+use Rattle.dl_lines.specs.declared.reader.TheConstants.{MOST_BYTES}
 use Rattle.dl_session.specs.declared.end.End.{End}
 use Rattle.dl_session.specs.Ends.{IsEnd, HasCause, HandsOnAll}
 
@@ -47,6 +48,7 @@ pub record IsServed (T : TheoryLists) (history : List Entry) (seat : ℕ) (old n
   pub entries : List Entry
   pub own : entries_of seat history ≡ enrolment seat ∷ entries
   pub took : old.rest ≡ prepend_known taken new.rest
+  pub within : length taken ≤ MOST_BYTES
   pub wrote : new.written ≡ append_known old.written written
   pub ends : IsEnd (state_after T history).editions entries taken new.rest written end
   pub handed : old.handed ≡ old.written → HandsOnAll new.handed new.written end
