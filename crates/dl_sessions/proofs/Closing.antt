@@ -25,7 +25,7 @@ some_tells : {A : Type 0} {x y : A} → Some x ≡ Some y → x ≡ y
 some_tells {A} {x} e = ap (λ o. elim o [ Some z ↦ z | None ↦ x ]) e
 
 module _ (desk : TableId) (T : TheoryLists) where
-  pub enrolled_push : (k : ℕ) (seats : List SeatLists) (seat : SeatLists) → AreEnrolled desk T k seats → IsEnrolled desk T (k + length seats) seat
+  enrolled_push : (k : ℕ) (seats : List SeatLists) (seat : SeatLists) → AreEnrolled desk T k seats → IsEnrolled desk T (k + length seats) seat
       → AreEnrolled desk T k (seats ++ seat ∷ [])
   enrolled_push k [] seat h e = (subst (λ n. IsEnrolled desk T n seat) (omega arith) e, tt)
   enrolled_push k (s ∷ seats) seat h e = (h.0, enrolled_push (k + 1) seats seat h.1 (subst (λ n. IsEnrolled desk T n seat) (omega arith) e))
@@ -37,8 +37,9 @@ module _ (desk : TableId) (T : TheoryLists) where
   all_may_serve k [] h = All-nil (MayServe desk)
   all_may_serve k (seat ∷ seats) h = All-cons (MayServe desk) seat seats (may_serve k seat h.0) (all_may_serve (k + 1) seats h.1)
 
+  -- a session that ended
   module _ (k : ℕ) (old new : Told) (seat : SeatLists) (end : End) (h : HasEnded desk T k old new seat end) where
-    pub ended_may_join : MayJoin desk seat
+    ended_may_join : MayJoin desk seat
     ended_may_join = let a = h.by.session.advances in record { place = a.place ∙ h.enrolled.place; within = a.within }
 
     -- the entries of its seat
@@ -56,8 +57,8 @@ module _ (desk : TableId) (T : TheoryLists) where
         subst (λ S. StartsWith (state_after T history).editions (state_after S seat.seen).editions) (sym (a.start ∙ h.enrolled.start))
         (subst (λ l. StartsWith (state_after T l).editions (state_after T seat.seen).editions) (sym seen.1) more.editions)
 
-    -- a session that ended, by a history that has its seat's entries
-    pub ended_served : (history : List Entry) (count : ℕ) → EndsStay → IsLegal T history → StartsWith history seat.seen
+    -- by a history that has its seat's entries
+    ended_served : (history : List Entry) (count : ℕ) → EndsStay → IsLegal T history → StartsWith history seat.seen
         → All (HasLines (λ e. e.seat) history count) (numbers_of seat) → IsServed T history k old new end
     ended_served history count stay legal seen lines =
         let s = h.by.session in
@@ -141,9 +142,6 @@ module _ (desk : TableId) (T : TheoryLists) where
         subst (λ l. AllAt R 0 l sessions) (sym (at_none IsOf 0 streams done e all)) (subst (λ l. AllAt R 0 [] l) (sym none) tt)
 
 module _ (desk : TableId) (base : SeatLists) where
-  pub ready_none : (seat : SeatLists) → seat ≡ new_seat desk base.start [] → IsReady desk seat [] 0
-  ready_none seat e = subst (λ s. IsReady desk s [] 0) (sym e) (record { is_base = record { place = refl; number = refl; olds = refl; within = refl }; enrolled = tt; counted = refl })
-
   -- A seat that was split from the base and enrolled.
   one_enrolled : (seat seat_now : SeatLists) (n : ℕ) → seat ≡ new_seat desk base.start base.seen → Stays seat seat_now → HasCalled seat seat_now Enrol (Enrolled n)
       → seat_now.number ≡ Some n → IsEnrolled desk base.start n seat_now
@@ -158,6 +156,7 @@ module _ (desk : TableId) (base : SeatLists) where
         within = stays.within;
       }
 
+  -- a hall with one more seat
   pub ready_more : (seats seats_now : List SeatLists) (seat seat_now base_now : SeatLists) (amount amount_now n : ℕ) → IsReady desk base seats amount → base_now ≡ base
       → seat ≡ new_seat desk base.start base.seen → Stays seat seat_now → HasCalled seat seat_now Enrol (Enrolled n) → (n ≡ amount) × (seat_now.number ≡ Some n)
       → seats_now ≡ seats ++ seat_now ∷ [] → amount_now ≡ amount + 1 → IsReady desk base_now seats_now amount_now
