@@ -1,6 +1,6 @@
 -- Pairs added one after another, as edits.
 use Rattle.std.proofs.Common.{◌≡◌, ℕ, ◌+◌, ◌≤◌, ◌<◌, List, [], ◌∷◌, ◌++◌, Option, None, Some, Result, Ok, Err, length, map, take, sym, ap, subst, ◌∙◌, append_assoc, arith, length-append}
-use Rattle.std.specs.Prelude.{All, OnOk, IfErr}
+use Rattle.std.specs.Prelude.{All}
 use Rattle.std.proofs.lemmas.List.{append-nil, take_all, take-take, length-map, length-take}
 use Rattle.std.proofs.lemmas.List.Elements.{All-head, All-tail, All-take}
 use Rattle.std.proofs.lemmas.Option.{slice_get_within, get_or_from_slice_get}
@@ -17,7 +17,7 @@ use Rattle.dl_theory.specs.declared.superiority.PairRefused.{PairRefused}
 use Rattle.dl_theory.specs.Lists.{TheoryLists, IsWellFormed, labels}
 use Rattle.dl_theory.specs.Pairs.{named}
 use Rattle.dl_theory.specs.Superiority.{AreFree, IsCause, AddsAll}
-use Rattle.dl_theory.specs.Edits.{after_edit, after_edits, additions, AreAccepted, IsRefused, IsMissing, HasBoth, IsFront, IsPairsStop}
+use Rattle.dl_theory.specs.Edits.{after_edit, after_edits, additions, AreAccepted, IsRefused, IsMissing, HasBoth, IsFront, IsPairsOutcome}
 use Rattle.dl_theory.specs.Refusals.{refusal_of, outcome_of}
 use Rattle.dl_theory.proofs.WellFormed.{edits_keep}
 use Rattle.dl_theory.proofs.Loads.{slice_get-take}
@@ -60,12 +60,6 @@ is_added T new qs both a e few = record {
   same = ap (λ (l : List Pair). record T { pairs = l }) e ∙ sym (after_additions T qs);
 }
 
--- what an answer says of the pairs of a theory, which become these
-pub record IsOutcome (T : TheoryLists) (new pairs : List Pair) (r : Result (Unit {0}) PairsStop) : Type 0 where
-  pub accepted : OnOk r (AreAccepted T (additions pairs))
-  pub changed : OnOk r (new ≡ (after_edits T (additions pairs)).pairs)
-  pub stopped : IfErr r (IsPairsStop T (record T { pairs = new }) pairs)
-
 pub front_within : (names : List (List ℕ)) (pairs : List Pair) (end : ℕ) (missing : Option EditRefusal) → IsFront names pairs end missing
     → end ≤ length pairs
 front_within names pairs end None f = omega (arith, f.1)
@@ -78,7 +72,7 @@ front_labelled T pairs end (Some x) m = m.front
 
 pairs_outcome : (T : TheoryLists) (pairs new : List Pair) (refused : Option PairRefused) (missing : Option EditRefusal) (end : ℕ)
     → IsFront (labels T) pairs end missing → AddsAll T.pairs new (take end pairs) refused → length new ≤ 1000000
-    → IsOutcome T new pairs (outcome_of refused missing end)
+    → IsPairsOutcome T pairs (record T { pairs = new }) (outcome_of refused missing end)
 pairs_outcome T pairs new (Some r) missing end front u few =
     let both : All (HasBoth T) (take end pairs) = front_labelled T pairs end missing front in
     let before : r.at < length (take end pairs) = slice_get_within (take end pairs) r.at u.refused u.stands in
@@ -90,41 +84,34 @@ pairs_outcome T pairs new (Some r) missing end front u few =
     let here : HasBoth T u.refused =
     subst (λ (p : Pair). HasBoth T p) (get_or_from_slice_get (take end pairs) r.at u.refused u.refused u.stands) (both r.at u.refused before) in
     record {
-      accepted = tt;
-      changed = tt;
-      stopped = record {
-        refused = u.refused;
-        stands = sym (slice_get-take pairs end r.at earlier) ∙ u.stands;
-        front = added.accepted;
-        added = added.same;
-        cause = cause_refused (record T { pairs = new }) u.refused r.cause here u.cause;
-      };
+      refused = u.refused;
+      stands = sym (slice_get-take pairs end r.at earlier) ∙ u.stands;
+      front = added.accepted;
+      added = added.same;
+      cause = cause_refused (record T { pairs = new }) u.refused r.cause here u.cause;
     }
 pairs_outcome T pairs new None (Some x) end m a few =
     let added : IsAdded T new (take end pairs) = is_added T new (take end pairs) m.front a.0 a.1 few in
     record {
-      accepted = tt;
-      changed = tt;
-      stopped = record {
-        refused = m.pair;
-        stands = m.stands;
-        front = added.accepted;
-        added = added.same;
-        cause = missing_refused T m.pair new x m.missing;
-      };
+      refused = m.pair;
+      stands = m.stands;
+      front = added.accepted;
+      added = added.same;
+      cause = missing_refused T m.pair new x m.missing;
     }
 pairs_outcome T pairs new None None end f a few =
     let all : take end pairs ≡ pairs = take_all end pairs (omega (arith, f.1)) in
     let added : IsAdded T new pairs =
     is_added T new pairs f.0 (subst (λ (l : List Pair). AreFree T.pairs l) all a.0) (a.1 ∙ ap (λ l. T.pairs ++ l) all) few in
-    record { accepted = added.accepted; changed = ap (λ (U : TheoryLists). U.pairs) added.same; stopped = tt }
+    (added.accepted, added.same)
 
 -- the same for labels, pairs and an answer that are known by equations
 pub labelled_outcome : (T : TheoryLists) (names : List (List ℕ)) (old pairs new : List Pair) (refused : Option PairRefused) (missing : Option EditRefusal) (end : ℕ)
     (r : Result (Unit {0}) PairsStop) → labels T ≡ names → T.pairs ≡ old → IsFront names pairs end missing
-    → AddsAll old new (take end pairs) refused → length new ≤ 1000000 → r ≡ outcome_of refused missing end → IsOutcome T new pairs r
+    → AddsAll old new (take end pairs) refused → length new ≤ 1000000 → r ≡ outcome_of refused missing end
+    → IsPairsOutcome T pairs (record T { pairs = new }) r
 labelled_outcome T names old pairs new refused missing end r l p front adds few e =
-    subst (λ (s : Result (Unit {0}) PairsStop). IsOutcome T new pairs s) (sym e)
+    subst (λ (s : Result (Unit {0}) PairsStop). IsPairsOutcome T pairs (record T { pairs = new }) s) (sym e)
     (pairs_outcome T pairs new refused missing end (subst (λ (ns : List (List ℕ)). IsFront ns pairs end missing) (sym l) front)
     (subst (λ (ps : List Pair). AddsAll ps new (take end pairs) refused) (sym p) adds) few)
 
@@ -134,7 +121,8 @@ pub numbered_outcome : (T : TheoryLists) (names items : List (List ℕ)) (old ne
     → items ≡ names → more ≡ links → end ≡ length links → IsFront names pairs (length links) missing
     → map (named names) links ≡ take (length links) pairs
     → AddsAll (map (named items) old) (map (named items) new) (map (named items) more) refused
-    → length new ≤ 1000000 → r ≡ outcome_of refused missing end → IsOutcome T (map (named names) new) pairs r
+    → length new ≤ 1000000 → r ≡ outcome_of refused missing end
+    → IsPairsOutcome T pairs (record T { pairs = map (named names) new }) r
 numbered_outcome T names items old new links more pairs refused missing end r l p same_items same_links same_end front named_as adds few e =
     let by_names : AddsAll (map (named names) old) (map (named names) new) (map (named names) more) refused =
     subst (λ (ns : List (List ℕ)). AddsAll (map (named ns) old) (map (named ns) new) (map (named ns) more) refused) same_items adds in
@@ -145,20 +133,10 @@ numbered_outcome T names items old new links more pairs refused missing end r l 
     (subst (λ (ps : List Pair). AddsAll (map (named names) old) (map (named names) new) ps refused) tried by_names)
     (omega (arith, length-map new (named names), few)) e
 
--- where pairs were added, nothing else has changed
-pub changed_whole : (T : TheoryLists) (new pairs : List Pair) (r : Result (Unit {0}) PairsStop)
-    → OnOk r (new ≡ (after_edits T (additions pairs)).pairs) → OnOk r (record T { pairs = new } ≡ after_edits T (additions pairs))
-changed_whole T new pairs (Err x) h = tt
-changed_whole T new pairs (Ok u) h =
-    let all = after_additions T pairs in
-    ap (λ (ps : List Pair). record T { pairs = ps }) (h ∙ ap (λ (U : TheoryLists). U.pairs) all) ∙ sym all
-
 -- a theory stays well formed, whatever the answer
-pub answer_keeps : (T : TheoryLists) (new pairs : List Pair) (r : Result (Unit {0}) PairsStop) → IsWellFormed T → OnOk r (AreAccepted T (additions pairs))
-    → OnOk r (new ≡ (after_edits T (additions pairs)).pairs) → IfErr r (IsPairsStop T (record T { pairs = new }) pairs)
-    → IsWellFormed (record T { pairs = new })
-answer_keeps T new pairs (Ok u) h accepted changed stopped =
-    subst (λ (U : TheoryLists). IsWellFormed U) (sym (changed_whole T new pairs (Ok u) changed)) (edits_keep T (additions pairs) h accepted)
-answer_keeps T new pairs (Err (pairs_stop.Refused at x)) h accepted changed stopped =
-    subst (λ (U : TheoryLists). IsWellFormed U) (sym stopped.added) (edits_keep T (additions (take at pairs)) h stopped.front)
-answer_keeps T new pairs (Err pairs_stop.Memory) h accepted changed stopped = subst (λ (U : TheoryLists). IsWellFormed U) (sym stopped) h
+pub outcome_keeps : (old new : TheoryLists) (pairs : List Pair) (r : Result (Unit {0}) PairsStop) → IsWellFormed old → IsPairsOutcome old pairs new r
+    → IsWellFormed new
+outcome_keeps old new pairs (Ok u) h added = subst IsWellFormed (sym added.1) (edits_keep old (additions pairs) h added.0)
+outcome_keeps old new pairs (Err (pairs_stop.Refused at x)) h stop =
+    subst IsWellFormed (sym stop.added) (edits_keep old (additions (take at pairs)) h stop.front)
+outcome_keeps old new pairs (Err pairs_stop.Memory) h same = subst IsWellFormed (sym same) h

@@ -19,10 +19,11 @@ use Rattle.dl_base.specs.Paths.{IsDistinct}
 use Rattle.dl_theory.specs.declared.rule.Pair.{Pair}
 use Rattle.dl_theory.specs.declared.edit.Edit.{Edit}
 use Rattle.dl_theory.specs.declared.edit.Edit.TheVariants.{AddRule, DropRule, AddFact, DropFact, AddPair, DropPair}
+use Rattle.dl_theory.specs.declared.edit.EditStop.{EditStop}
 use Rattle.dl_theory.specs.declared.superiority.PairStop.{PairStop}
 use Rattle.dl_theory.specs.Lists.{TheoryLists, IsWellFormed, IsAbove, labels}
 use Rattle.dl_theory.specs.Pairs.{pair_eq, Closes}
-use Rattle.dl_theory.specs.Edits.{after_edit, after_edits, HasLabel, IsAccepted, AreAccepted}
+use Rattle.dl_theory.specs.Edits.{after_edit, after_edits, HasLabel, IsAccepted, IsEdited, AreAccepted}
 
 pub absent_fact : (facts : List Literal) (q : Literal) → (¬ Contains facts q) → list_any (literal_eq q) facts ≡ false
 absent_fact facts q new = false_unless (list_any (literal_eq q) facts) (is_member-Decides literal_eq-Decides facts q) new
@@ -147,6 +148,11 @@ edit_keeps T (AddFact q) h a = add_fact_keeps T q h a.0 a.1
 edit_keeps T (DropFact q) h a = drop_fact_keeps T q h
 edit_keeps T (AddPair p) h a = add_pair_keeps T p h a.0 a.1 a.2 a.3 a.4
 edit_keeps T (DropPair p) h a = drop_pair_keeps T p h
+
+-- whether an edit was made or not
+pub edited_keeps : {A : Type 0} (old new : TheoryLists) (e : Edit) (r : Result A EditStop) → IsWellFormed old → IsEdited old e new r → IsWellFormed new
+edited_keeps old new e (Ok x) h i = subst IsWellFormed (sym i.1) (edit_keeps old e h i.0)
+edited_keeps old new e (Err stop) h i = subst IsWellFormed (sym i.1) h
 
 -- and so do edits one after another
 pub edits_keep : (T : TheoryLists) (es : List Edit) → IsWellFormed T → AreAccepted T es → IsWellFormed (after_edits T es)

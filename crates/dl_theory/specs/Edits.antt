@@ -1,5 +1,5 @@
 -- What an edit changes, and when it is refused.
-use Rattle.std.specs.Prelude.{◌≡◌, ◌⊎◌, ℕ, ◌≤◌, ◌<◌, not, ◌||◌, List, [], ◌∷◌, ◌++◌, length, Contains, filter, map, take, slice_get, Option, None, Some, All}
+use Rattle.std.specs.Prelude.{◌≡◌, ◌⊎◌, ℕ, ◌≤◌, ◌<◌, not, ◌||◌, List, [], ◌∷◌, ◌++◌, length, Contains, filter, map, take, slice_get, Option, None, Some, All, Result, MatchResult}
 use Rattle.std.specs.Str.{bytes_eq}
 use Rattle.dl_lit.specs.Literal.{literal_eq}
 use Rattle.dl_theory.specs.declared.rule.Pair.{Pair}
@@ -91,6 +91,14 @@ abbrev pub IsStopped : TheoryLists → Edit → EditStop → Type 0
 IsStopped T e (Refused x) = IsRefused T e x
 IsStopped T e Memory = Unit {0}
 
+-- what a call answers that is asked for an edit: `Ok` where it is accepted, and else its cause, or want of memory
+abbrev pub IsAnswered : {A : Type 0} → TheoryLists → Edit → Result A EditStop → Type 0
+IsAnswered T e result = MatchResult result (λ _. IsAccepted T e) (IsStopped T e)
+
+-- what a call that edits answers, and the theory after it: the edit is accepted and made, or it is stopped and the theory is as before
+abbrev pub IsEdited : {A : Type 0} → TheoryLists → Edit → TheoryLists → Result A EditStop → Type 0
+IsEdited old e new result = MatchResult result (λ _. IsAccepted old e × (new ≡ after_edit old e)) (λ stop. IsStopped old e stop × (new ≡ old))
+
 -- edits one after another, each accepted where it comes
 abbrev pub AreAccepted : TheoryLists → List Edit → Type 0
 AreAccepted T [] = Unit {0}
@@ -116,3 +124,11 @@ pub record StopsAtPair (old new : TheoryLists) (pairs : List Pair) (at : ℕ) (r
 abbrev pub IsPairsStop : TheoryLists → TheoryLists → List Pair → PairsStop → Type 0
 IsPairsStop old new pairs (pairs_stop.Refused at refusal) = StopsAtPair old new pairs at refusal
 IsPairsStop old new pairs pairs_stop.Memory = new ≡ old
+
+-- the pairs were added, one by one
+abbrev pub AddsPairs : TheoryLists → List Pair → TheoryLists → Type 0
+AddsPairs old pairs new = AreAccepted old (additions pairs) × (new ≡ after_edits old (additions pairs))
+
+-- what a call that adds pairs answers, and the theory after it: they were added, or the adding stopped
+abbrev pub IsPairsOutcome : {A : Type 0} → TheoryLists → List Pair → TheoryLists → Result A PairsStop → Type 0
+IsPairsOutcome old pairs new result = MatchResult result (λ _. AddsPairs old pairs new) (IsPairsStop old new pairs)

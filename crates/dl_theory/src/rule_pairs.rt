@@ -1,10 +1,10 @@
 //! Pairs of rules by the places of their labels.
 
-ghost use Rattle.std.specs.Prelude.{◌≡◌, ◌≤◌, [], All, OnOk, OnErr, IfOk, IfErr, map, length, slice_get};
+ghost use Rattle.std.specs.Prelude.{◌≡◌, ◌≤◌, [], All, OnErr, IfOk, map, length, slice_get};
 ghost use Rattle.std.specs.Option.{option_map};
 ghost use Rattle.dl_base.specs.Paths.{IsDistinct};
 ghost use Rattle.dl_sup.specs.Links.{IsOrder};
-ghost use Rattle.dl_theory.specs.Edits.{after_edits, additions, AreAccepted, IsPairsStop};
+ghost use Rattle.dl_theory.specs.Edits.{IsPairsOutcome};
 ghost use Rattle.dl_theory.specs.Lists as lists;
 ghost use Rattle.dl_theory.specs.Lists.{TheoryLists, IsWellFormed};
 ghost use Rattle.dl_theory.specs.Pairs.{named, IsWithin};
@@ -65,12 +65,8 @@ impl RulePairs {
     pub fn add_labelled(&mut self, labels: &NameSet<Name>, pairs: &[Pair]) -> Result<(), PairsStop>
         requires within { All (IsWithin labels.now.keys) self.old }
         requires few { length self.old ≤ 1000000 }
-        ensures accepted { (T : TheoryLists) → IsWellFormed T → lists.labels T ≡ labels.now.keys → T.pairs ≡ map (named labels.now.keys) self.old
-            → OnOk result (AreAccepted T (additions pairs.now)) }
-        ensures changed { (T : TheoryLists) → IsWellFormed T → lists.labels T ≡ labels.now.keys → T.pairs ≡ map (named labels.now.keys) self.old
-            → OnOk result (map (named labels.now.keys) self.new ≡ (after_edits T (additions pairs.now)).pairs) }
-        ensures stopped { (T : TheoryLists) → IsWellFormed T → lists.labels T ≡ labels.now.keys → T.pairs ≡ map (named labels.now.keys) self.old
-            → IfErr result (IsPairsStop T (record T { pairs = map (named labels.now.keys) self.new }) pairs.now) }
+        ensures added { (T : TheoryLists) → IsWellFormed T → lists.labels T ≡ labels.now.keys → T.pairs ≡ map (named labels.now.keys) self.old
+            → IsPairsOutcome T pairs.now (record T { pairs = map (named labels.now.keys) self.new }) result }
         ensures within { All (IsWithin labels.now.keys) self.new }
     {
         let alloc = *self.links.allocator();

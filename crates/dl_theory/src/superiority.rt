@@ -4,7 +4,7 @@ ghost use Rattle.std.specs.Prelude.{◌≡◌, [], ◌∷◌, ◌++◌, ◌↔�
 ghost use Rattle.std.specs.Option.{option_copied};
 ghost use Rattle.std.specs.Str.{bytes_eq};
 ghost use Rattle.dl_base.specs.Paths.{IsDistinct, HasCycle};
-ghost use Rattle.dl_theory.specs.Edits.{after_edits, additions, AreAccepted, AreThere, IsPairsStop};
+ghost use Rattle.dl_theory.specs.Edits.{AreThere, IsPairsOutcome};
 ghost use Rattle.dl_theory.specs.Lists as lists;
 ghost use Rattle.dl_theory.specs.Lists.{TheoryLists, IsAbove, IsWellFormed};
 ghost use Rattle.dl_sup.specs.declared.link.Link.{Link};
@@ -228,12 +228,8 @@ impl Superiority {
         requires distinct { IsDistinct self.old }
         requires acyclic { ¬ HasCycle (IsAbove self.old) }
         requires few { length self.old ≤ 1000000 }
-        ensures accepted { (T : TheoryLists) → IsWellFormed T → lists.labels T ≡ labels.now.keys → T.pairs ≡ self.old
-            → OnOk result (AreAccepted T (additions pairs.now)) }
-        ensures changed { (T : TheoryLists) → IsWellFormed T → lists.labels T ≡ labels.now.keys → T.pairs ≡ self.old
-            → OnOk result (self.new ≡ (after_edits T (additions pairs.now)).pairs) }
-        ensures stopped { (T : TheoryLists) → IsWellFormed T → lists.labels T ≡ labels.now.keys → T.pairs ≡ self.old
-            → IfErr result (IsPairsStop T (record T { pairs = self.new }) pairs.now) }
+        ensures { (T : TheoryLists) → IsWellFormed T → lists.labels T ≡ labels.now.keys → T.pairs ≡ self.old
+            → IsPairsOutcome T pairs.now (record T { pairs = self.new }) result }
     {
         let alloc = *self.pairs.allocator();
         let (hints, missing) = labelled_front(alloc, labels, pairs)?;

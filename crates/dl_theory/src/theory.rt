@@ -48,7 +48,7 @@ impl Model for Theory {
 
 impl Theory {
     ghost use Rattle.dl_theory.specs.Lists.{labels, no_lists, IsAbove, IsWellFormed};
-    ghost use Rattle.dl_theory.specs.Edits.{after_edit, after_edits, additions, AreAccepted, IsAccepted, IsStopped, IsPairsStop, HasLabel};
+    ghost use Rattle.dl_theory.specs.Edits.{after_edit, HasLabel, IsAccepted, IsStopped, IsEdited, IsPairsOutcome};
     ghost use Rattle.dl_theory.specs.Pairs.{named, IsWithin};
 
     /// The empty theory.
@@ -180,10 +180,7 @@ impl Theory {
 
     /// Makes an edit, or says why not.
     pub fn apply(&mut self, edit: &Edit) -> Result<(), EditStop>
-        ensures accepted { OnOk result (IsAccepted self.old edit.now) }
-        ensures changed { OnOk result (self.new ≡ after_edit self.old edit.now) }
-        ensures stopped { IfErr result (IsStopped self.old edit.now) }
-        ensures kept { OnErr result (self.new ≡ self.old) }
+        ensures { IsEdited self.old edit.now self.new result }
     {
         let edit = edit.copy()?;
         self.apply_owned(edit)
@@ -193,10 +190,7 @@ impl Theory {
     // inlined always, with what a rule and a fact take: the edit is taken apart where it was made, and not moved
     #[inline(always)]
     pub fn apply_owned(&mut self, edit: Edit) -> Result<(), EditStop>
-        ensures accepted { OnOk result (IsAccepted self.old edit) }
-        ensures changed { OnOk result (self.new ≡ after_edit self.old edit) }
-        ensures stopped { IfErr result (IsStopped self.old edit) }
-        ensures kept { OnErr result (self.new ≡ self.old) }
+        ensures { IsEdited self.old edit self.new result }
     {
         match edit {
             Edit::AddRule(rule) => self.add_rule(rule),
@@ -210,9 +204,7 @@ impl Theory {
 
     /// Adds pairs as adding them one by one, in order, up to the first that is refused.
     pub fn add_pairs(&mut self, pairs: &[Pair]) -> Result<(), PairsStop>
-        ensures accepted { OnOk result (AreAccepted self.old (additions pairs.now)) }
-        ensures changed { OnOk result (self.new ≡ after_edits self.old (additions pairs.now)) }
-        ensures stopped { IfErr result (IsPairsStop self.old self.new pairs.now) }
+        ensures { IsPairsOutcome self.old pairs.now self.new result }
     {
         self.pairs.add_labelled(self.rules.labels(), pairs)
     }
@@ -258,10 +250,7 @@ impl Theory {
 
     #[inline(always)]
     pub(crate) fn add_rule(&mut self, rule: Rule) -> Result<(), EditStop>
-        ensures accepted { OnOk result (IsAccepted self.old (Edit.AddRule rule)) }
-        ensures changed { OnOk result (self.new ≡ after_edit self.old (Edit.AddRule rule)) }
-        ensures stopped { IfErr result (IsStopped self.old (Edit.AddRule rule)) }
-        ensures kept { OnErr result (self.new ≡ self.old) }
+        ensures { IsEdited self.old (Edit.AddRule rule) self.new result }
     {
         // one look-up tells whether the label is new and puts it in; where the list is full, nothing may be put in
         if self.rules.len() >= LIMIT && !self.rules.has(&rule.label) {
@@ -274,10 +263,7 @@ impl Theory {
     }
 
     fn drop_rule(&mut self, label: Name) -> Result<(), EditStop>
-        ensures accepted { OnOk result (IsAccepted self.old (Edit.DropRule label)) }
-        ensures changed { OnOk result (self.new ≡ after_edit self.old (Edit.DropRule label)) }
-        ensures stopped { IfErr result (IsStopped self.old (Edit.DropRule label)) }
-        ensures kept { OnErr result (self.new ≡ self.old) }
+        ensures { IsEdited self.old (Edit.DropRule label) self.new result }
     {
         if !self.rules.has(&label) {
             return Err(EditStop::Refused(EditRefusal::NoLabel(label)));
@@ -288,10 +274,7 @@ impl Theory {
 
     #[inline(always)]
     pub(crate) fn add_fact(&mut self, fact: Literal) -> Result<(), EditStop>
-        ensures accepted { OnOk result (IsAccepted self.old (Edit.AddFact fact)) }
-        ensures changed { OnOk result (self.new ≡ after_edit self.old (Edit.AddFact fact)) }
-        ensures stopped { IfErr result (IsStopped self.old (Edit.AddFact fact)) }
-        ensures kept { OnErr result (self.new ≡ self.old) }
+        ensures { IsEdited self.old (Edit.AddFact fact) self.new result }
     {
         if self.facts.len() >= LIMIT && !holds(&self.facts, &fact) {
             return Err(EditStop::Refused(EditRefusal::FactsFull));
@@ -303,10 +286,7 @@ impl Theory {
     }
 
     fn drop_fact(&mut self, fact: &Literal) -> Result<(), EditStop>
-        ensures accepted { OnOk result (IsAccepted self.old (Edit.DropFact fact.now)) }
-        ensures changed { OnOk result (self.new ≡ after_edit self.old (Edit.DropFact fact.now)) }
-        ensures stopped { IfErr result (IsStopped self.old (Edit.DropFact fact.now)) }
-        ensures kept { OnErr result (self.new ≡ self.old) }
+        ensures { IsEdited self.old (Edit.DropFact fact.now) self.new result }
     {
         if !holds(&self.facts, fact) {
             return Err(EditStop::Refused(EditRefusal::NoFact));
@@ -316,10 +296,7 @@ impl Theory {
     }
 
     fn add_pair(&mut self, pair: Pair) -> Result<(), EditStop>
-        ensures accepted { OnOk result (IsAccepted self.old (Edit.AddPair pair)) }
-        ensures changed { OnOk result (self.new ≡ after_edit self.old (Edit.AddPair pair)) }
-        ensures stopped { IfErr result (IsStopped self.old (Edit.AddPair pair)) }
-        ensures kept { OnErr result (self.new ≡ self.old) }
+        ensures { IsEdited self.old (Edit.AddPair pair) self.new result }
     {
         let pair = self.with_labels(pair)?;
         if self.pairs.has(&pair) {
@@ -351,10 +328,7 @@ impl Theory {
     }
 
     fn drop_pair(&mut self, pair: &Pair) -> Result<(), EditStop>
-        ensures accepted { OnOk result (IsAccepted self.old (Edit.DropPair pair.now)) }
-        ensures changed { OnOk result (self.new ≡ after_edit self.old (Edit.DropPair pair.now)) }
-        ensures stopped { IfErr result (IsStopped self.old (Edit.DropPair pair.now)) }
-        ensures kept { OnErr result (self.new ≡ self.old) }
+        ensures { IsEdited self.old (Edit.DropPair pair.now) self.new result }
     {
         if !self.pairs.has(pair) {
             return Err(EditStop::Refused(EditRefusal::NoPair));

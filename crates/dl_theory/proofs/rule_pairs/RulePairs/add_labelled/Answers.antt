@@ -12,23 +12,9 @@ add_within_limit-requires-clause-distinct c =
     subst (λ (ls : List (List ℕ)). IsDistinct ls) (sym c.as_slice-items.ensures.keys)
     (keys_distinct bytes_eq bytes_eq-Decides c.args.labels.now.keys c.as_slice-items.ensures.unique)
 
-pub returns-clause-accepted : goal.returns-clause-accepted
-returns-clause-accepted c = λ T h l e.
-    (numbered_outcome T c.args.labels.now.keys c.as_slice-items.result.now c.self.inside.links.items c.add_within_limit.new.links.items
+pub returns-clause-added : goal.returns-clause-added
+returns-clause-added c = λ T h l e.
+    numbered_outcome T c.args.labels.now.keys c.as_slice-items.result.now c.self.inside.links.items c.add_within_limit.new.links.items
     c.in_ok-links.links.items c.as_slice.result.now c.args.pairs.now c.in_ok-refused.refused c.in_ok-links.missing c.len-end.result c.outcome_of.result
     l (e ∙ ap (map (named c.args.labels.now.keys)) (sym c.self.view_is)) c.as_slice-items.ensures.keys c.as_slice.ensures.value (search rules)
-    c.in_ok-links.ensures.front c.in_ok-links.ensures.named c.in_ok-refused.ensures.added c.add_within_limit.ensures.few c.outcome_of.ensures).accepted
-
-pub returns-clause-changed : goal.returns-clause-changed
-returns-clause-changed c = λ T h l e.
-    (numbered_outcome T c.args.labels.now.keys c.as_slice-items.result.now c.self.inside.links.items c.add_within_limit.new.links.items
-    c.in_ok-links.links.items c.as_slice.result.now c.args.pairs.now c.in_ok-refused.refused c.in_ok-links.missing c.len-end.result c.outcome_of.result
-    l (e ∙ ap (map (named c.args.labels.now.keys)) (sym c.self.view_is)) c.as_slice-items.ensures.keys c.as_slice.ensures.value (search rules)
-    c.in_ok-links.ensures.front c.in_ok-links.ensures.named c.in_ok-refused.ensures.added c.add_within_limit.ensures.few c.outcome_of.ensures).changed
-
-pub returns-clause-stopped : goal.returns-clause-stopped
-returns-clause-stopped c = λ T h l e.
-    (numbered_outcome T c.args.labels.now.keys c.as_slice-items.result.now c.self.inside.links.items c.add_within_limit.new.links.items
-    c.in_ok-links.links.items c.as_slice.result.now c.args.pairs.now c.in_ok-refused.refused c.in_ok-links.missing c.len-end.result c.outcome_of.result
-    l (e ∙ ap (map (named c.args.labels.now.keys)) (sym c.self.view_is)) c.as_slice-items.ensures.keys c.as_slice.ensures.value (search rules)
-    c.in_ok-links.ensures.front c.in_ok-links.ensures.named c.in_ok-refused.ensures.added c.add_within_limit.ensures.few c.outcome_of.ensures).stopped
+    c.in_ok-links.ensures.front c.in_ok-links.ensures.named c.in_ok-refused.ensures.added c.add_within_limit.ensures.few c.outcome_of.ensures

@@ -1,4 +1,4 @@
-use Rattle.std.proofs.Common.{[], List, take, sym, subst}
+use Rattle.std.proofs.Common.{[], List, sym, subst}
 use Rattle.std.proofs.lemmas.List.{length-take-le}
 use Rattle.dl_theory.specs.declared.rule.Pair.{Pair}
 use Rattle.dl_theory.specs.Pairs.{IsNumbered}
