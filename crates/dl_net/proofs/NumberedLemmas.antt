@@ -1,6 +1,6 @@
 -- A theory that is kept by numbers, through more names, one fact more and one rule more.
 use Rattle.std.proofs.Common.{◌≡◌, ◌≤◌, ◌<◌, ℕ, Bool, true, false, List, [], ◌∷◌, ◌++◌, length, get_or, set, map, refl, sym, ap, subst, ◌∙◌, arith, length-append, Result, Ok, Err}
-use Rattle.std.specs.Prelude.{All, Contains, ◌↔◌, OnErr}
+use Rattle.std.specs.Prelude.{All, Contains, ◌↔◌, IsErrAnd}
 use Rattle.std.specs.Set.{is_member}
 use Rattle.std.proofs.Math.ListN.{get_or-append, length-map}
 use Rattle.std.proofs.lemmas.List.{map-append}
@@ -13,9 +13,12 @@ use Rattle.dl_lit.specs.Literal.{literal_eq}
 use Rattle.dl_lit.specs.Order.{literal_eq-Decides}
 use Rattle.dl_theory.specs.declared.rule.Rule.{Rule}
 use Rattle.dl_theory.specs.declared.rule.Pair.{Pair}
+use Rattle.dl_theory.specs.declared.edit.Edit.{Edit}
 use Rattle.dl_theory.specs.declared.edit.Edit.TheVariants.{AddRule, AddFact}
+use Rattle.dl_theory.specs.declared.edit.EditStop.{EditStop}
+use Rattle.dl_theory.specs.declared.edit.EditStop.TheVariants as edit_stop
 use Rattle.dl_theory.specs.Lists.{TheoryLists, no_lists, IsWellFormed, labels}
-use Rattle.dl_theory.specs.Edits.{IsAccepted, after_edit}
+use Rattle.dl_theory.specs.Edits.{IsAccepted, IsStopped, IsEdited, after_edit}
 use Rattle.dl_theory.proofs.WellFormed.{edit_keeps}
 use Rattle.dl_net.specs.Numbers.{no_literal}
 use Rattle.dl_names.specs.Paired.{Grows, number_in}
@@ -337,9 +340,9 @@ none_loading = record {
   };
 }
 
--- ---- results
+-- ---- answers
 
--- what holds whatever a call returns
-pub err_from : {X : Type 0} {E : Type 0} (r : Result X E) (P : Type 0) → P → OnErr r P
-err_from (Ok x) P p = tt
-err_from (Err e) P p = p
+-- want of memory, as `?` hands it on, stops an edit
+pub memory_stops : {A : Type 0} (T U : TheoryLists) (e : Edit) (r : Result A EditStop) → IsErrAnd r (λ stop. stop ≡ edit_stop.Memory) → U ≡ T → IsEdited T e U r
+memory_stops T U e (Ok x) memory same = absurd memory
+memory_stops T U e (Err stop) memory same = (subst (IsStopped T e) (sym memory) tt, same)

@@ -1,7 +1,7 @@
 //! Edits of a net. An edit is prepared with all the memory that it takes, and then made in place without any.
 
-ghost use Rattle.std.specs.Prelude.{◌≡◌, IfOk, IfErr, OnOk, OnErr, IsTrue, None, Some, false};
-ghost use Rattle.dl_theory.specs.Edits.{IsAccepted, IsStopped, after_edit};
+ghost use Rattle.std.specs.Prelude.{◌≡◌, IfOk, OnOk, OnErr, IsTrue, None, Some, false};
+ghost use Rattle.dl_theory.specs.Edits.{IsAnswered, after_edit};
 ghost use Rattle.dl_net.specs.Edited.{edit_literals};
 ghost use Rattle.dl_names.specs.Paired.{IsNear, Grows};
 
@@ -21,8 +21,7 @@ impl Net {
     /// the edit, and their complements, may have got numbers.
     pub fn prepare(&mut self, edit: &Edit) -> Result<Ready, EditStop>
         ensures ready { IfOk result (λ ready. ready.edit ≡ edit.now) }
-        ensures accepted { OnOk result (IsAccepted self.old.theory edit.now) }
-        ensures stopped { IfErr result (IsStopped self.old.theory edit.now) }
+        ensures answered { IsAnswered self.old.theory edit.now result }
         ensures theory { self.new.theory ≡ self.old.theory }
         ensures names { Grows (IsNear (edit_literals edit.now)) self.old.names self.new.names }
         ensures pending { OnOk result (self.new.pending ≡ Some edit.now) }
@@ -89,8 +88,7 @@ impl Net {
     fn stage(&mut self, edit: &Edit) -> Result<(), EditStop>
         requires pending { self.old.pending ≡ None }
         requires frozen { self.old.frozen ≡ false }
-        ensures accepted { OnOk result (IsAccepted self.old.theory edit.now) }
-        ensures stopped { IfErr result (IsStopped self.old.theory edit.now) }
+        ensures answered { IsAnswered self.old.theory edit.now result }
         ensures theory { self.new.theory ≡ self.old.theory }
         ensures names { Grows (IsNear (edit_literals edit.now)) self.old.names self.new.names }
         ensures pending { OnOk result (self.new.pending ≡ Some edit.now) }

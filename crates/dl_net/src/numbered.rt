@@ -1,11 +1,11 @@
 //! A theory that is kept by numbers, without its statements.
 
-ghost use Rattle.std.specs.Prelude.{◌≡◌, ◌↔◌, List, IsTrue, OnOk, OnErr, IfOk, IfErr, All, Contains, false, get_or};
+ghost use Rattle.std.specs.Prelude.{◌≡◌, ◌↔◌, List, IsTrue, All, Contains, false, get_or};
 ghost use Rattle.dl_lit.specs.declared.literal.Literal.{Literal};
 ghost use Rattle.dl_theory.specs.declared.edit.Edit.TheVariants.{AddRule, AddFact};
 ghost use Rattle.dl_theory.specs.declared.rule.Rule.{Rule};
 ghost use Rattle.dl_theory.specs.Lists.{TheoryLists};
-ghost use Rattle.dl_theory.specs.Edits.{HasLabel, IsAccepted, IsStopped, after_edit, after_edits, additions, AreAccepted, IsPairsStop};
+ghost use Rattle.dl_theory.specs.Edits.{HasLabel, IsStopped, IsEdited};
 ghost use Rattle.dl_net.specs.Named.{HasFacts};
 
 use crate::labels::keep_first;
@@ -75,10 +75,7 @@ impl NumberedTheory {
     // inlined always, as what takes a rule: the statement is taken apart where it was made, and not moved
     #[inline(always)]
     fn put_fact(&mut self, fact: &Literal) -> Result<(), EditStop>
-        ensures accepted { OnOk result (IsAccepted self.old.theory (AddFact fact.now)) }
-        ensures changed { OnOk result (self.new.theory ≡ after_edit self.old.theory (AddFact fact.now)) }
-        ensures stopped { IfErr result (IsStopped self.old.theory (AddFact fact.now)) }
-        ensures kept { OnErr result (self.new.theory ≡ self.old.theory) }
+        ensures { IsEdited self.old.theory (AddFact fact.now) self.new.theory result }
     {
         let _count = self.names.len();
         // one look-up tells whether the fact is new and numbers it; where the list is full, nothing may be numbered
@@ -98,10 +95,7 @@ impl NumberedTheory {
     /// Adds a rule, or says why not.
     #[inline(always)]
     fn put_rule(&mut self, rule: &Rule) -> Result<(), EditStop>
-        ensures accepted { OnOk result (IsAccepted self.old.theory (AddRule rule.now)) }
-        ensures changed { OnOk result (self.new.theory ≡ after_edit self.old.theory (AddRule rule.now)) }
-        ensures stopped { IfErr result (IsStopped self.old.theory (AddRule rule.now)) }
-        ensures kept { OnErr result (self.new.theory ≡ self.old.theory) }
+        ensures { IsEdited self.old.theory (AddRule rule.now) self.new.theory result }
     {
         let _names = self.names.len();
         let count = self.labels.len();

@@ -1,11 +1,11 @@
 //! A theory with an edit that is prepared.
 
-ghost use Rattle.std.specs.Prelude.{◌≡◌, ◌<◌, ◌↔◌, IfOk, IfErr, OnOk, OnErr, IfSome, IfNone, IsTrue, IsSome, None, Some, [], length, slice_get, slice_index_or};
+ghost use Rattle.std.specs.Prelude.{◌≡◌, ◌<◌, ◌↔◌, IfOk, OnOk, OnErr, IfSome, IfNone, IsTrue, IsSome, None, Some, [], length, slice_get, slice_index_or};
 ghost use Rattle.std.specs.Option.{option_copied};
 ghost use Rattle.dl_theory.specs.Lists.{TheoryLists, labels, IsAbove, IsWellFormed};
 ghost use Rattle.dl_net.specs.Staged.{held, taken_back};
 ghost use Rattle.dl_net.specs.KeptStaged.{IsHeld};
-ghost use Rattle.dl_theory.specs.Edits.{IsAccepted, IsStopped, after_edit, HasLabel};
+ghost use Rattle.dl_theory.specs.Edits.{IsAnswered, after_edit, HasLabel};
 
 use dl_base::Memory;
 use dl_lit::{Literal, Name};
@@ -43,8 +43,7 @@ impl Staged {
     /// Prepares an edit, or says why not.
     pub fn stage(&mut self, edit: &Edit) -> Result<(), EditStop>
         requires { self.old.pending ≡ None }
-        ensures accepted { OnOk result (IsAccepted self.old.theory edit.now) }
-        ensures stopped { IfErr result (IsStopped self.old.theory edit.now) }
+        ensures answered { IsAnswered self.old.theory edit.now result }
         ensures theory { self.new.theory ≡ self.old.theory }
         ensures pending { OnOk result (self.new.pending ≡ Some edit.now) }
         ensures none { OnErr result (self.new.pending ≡ None) }
@@ -206,8 +205,7 @@ fn adds_pair(edit: &Option<Edit>, upper: &Name, lower: &Name) -> bool
 
 /// Puts what an edit adds into its list, or says why the edit is refused. A removal changes nothing.
 fn hold(theory: &mut Theory, edit: &Edit) -> Result<(), EditStop>
-    ensures accepted { OnOk result (IsAccepted theory.old edit.now) }
-    ensures stopped { IfErr result (IsStopped theory.old edit.now) }
+    ensures answered { IsAnswered theory.old edit.now result }
     ensures held { OnOk result (theory.new ≡ held theory.old edit.now) }
     ensures kept { OnErr result (theory.new ≡ theory.old) }
 {
@@ -222,8 +220,7 @@ fn hold(theory: &mut Theory, edit: &Edit) -> Result<(), EditStop>
 }
 
 fn may_drop_rule(theory: &Theory, label: &Name) -> Result<(), EditStop>
-    ensures accepted { OnOk result (IsAccepted theory.now (Edit.DropRule label.now)) }
-    ensures stopped { IfErr result (IsStopped theory.now (Edit.DropRule label.now)) }
+    ensures { IsAnswered theory.now (Edit.DropRule label.now) result }
 {
     match theory.rule_place(label) {
         None => Err(EditStop::Refused(EditRefusal::NoLabel(label.copy()?))),
@@ -232,8 +229,7 @@ fn may_drop_rule(theory: &Theory, label: &Name) -> Result<(), EditStop>
 }
 
 fn may_drop_fact(theory: &Theory, fact: &Literal) -> Result<(), EditStop>
-    ensures accepted { OnOk result (IsAccepted theory.now (Edit.DropFact fact.now)) }
-    ensures stopped { IfErr result (IsStopped theory.now (Edit.DropFact fact.now)) }
+    ensures { IsAnswered theory.now (Edit.DropFact fact.now) result }
 {
     if theory.has_fact(fact) {
         Ok(())
@@ -243,8 +239,7 @@ fn may_drop_fact(theory: &Theory, fact: &Literal) -> Result<(), EditStop>
 }
 
 fn may_drop_pair(theory: &Theory, pair: &Pair) -> Result<(), EditStop>
-    ensures accepted { OnOk result (IsAccepted theory.now (Edit.DropPair pair.now)) }
-    ensures stopped { IfErr result (IsStopped theory.now (Edit.DropPair pair.now)) }
+    ensures { IsAnswered theory.now (Edit.DropPair pair.now) result }
 {
     if theory.has_pair(pair) {
         Ok(())

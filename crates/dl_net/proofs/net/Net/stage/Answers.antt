@@ -18,7 +18,7 @@ invariant_of-self-in-Ok c =
     })) (sym (ap (λ (v : NetLists). v.frozen) c.self.view_is ∙ c.requires.frozen))
     (kept_pending c.stage.new.self c.take_room-room.new.names c.take_room-room.new.facts c.take_room-room.new.index c.args.edit.now
     (subst IsWellFormed (sym same) c.self.invariant.formed) c.in_ok-stage.ensures.pending c.in-Ok.ensures.distinct c.in-Ok.ensures.paired c.in-Ok.ensures.tables
-    (subst (λ (T : TheoryLists). IsAccepted T c.args.edit.now) (sym same) c.in_ok-stage.ensures.accepted) c.in-Ok.ensures.room)
+    (subst (λ (T : TheoryLists). IsAccepted T c.args.edit.now) (sym same) c.in_ok-stage.ensures.answered) c.in-Ok.ensures.room)
 
 pub invariant_of-self-in-Err : goal.invariant_of-self-in-Err
 invariant_of-self-in-Err c =

@@ -25,8 +25,8 @@ named_by_more : (ks : List (List ℕ)) (label : List ℕ) (ks' : List (List ℕ)
     → map (named ks') links ≡ map (named ks) links
 named_by_more ks label ks' put links w = ap (λ (ls : List (List ℕ)). map (named ls) links) put ∙ pairs_kept ks (label ∷ []) links w
 
-pub returns-then-not-holds_label-clause-stopped : goal.returns-then-not-holds_label-clause-stopped
-returns-then-not-holds_label-clause-stopped c =
+pub returns-then-not-holds_label : goal.returns-then-not-holds_label
+returns-then-not-holds_label c =
     let a : List Literal = c.self.inside.names.literals in
     let ks : List (List ℕ) = c.self.inside.labels.keys in
     let order : List ℕ = c.self.inside.order.items in
@@ -41,7 +41,7 @@ returns-then-not-holds_label-clause-stopped c =
     let off = c.if-not-holds_label.true in cc in
     let many : 1000000 ≤ length T.rules =
     omega (arith, c.len-count.ensures.len, c.if-count-ge-LIMIT.true, rules_from_len a ks order [] marks x c.self.invariant.loading.tables) in
-    subst (λ (U : TheoryLists). (Contains (labels U) r.label → ⊥) × (1000000 ≤ length U.rules)) same (none, many)
+    (subst (λ (U : TheoryLists). (Contains (labels U) r.label → ⊥) × (1000000 ≤ length U.rules)) same (none, many), refl)
 
 pub invariant_of-self-then-not-new : goal.invariant_of-self-then-not-new
 invariant_of-self-then-not-new c =
@@ -59,8 +59,8 @@ invariant_of-self-then-not-new c =
       within = subst (λ (ls : List (List ℕ)). All (IsWithin ls) c.self.inside.pairs) (sym stay) c.self.invariant.within;
     }
 
-pub returns-then-not-new-clause-stopped : goal.returns-then-not-new-clause-stopped
-returns-then-not-new-clause-stopped c =
+pub returns-then-not-new : goal.returns-then-not-new
+returns-then-not-new c =
     let a : List Literal = c.self.inside.names.literals in
     let ks : List (List ℕ) = c.self.inside.labels.keys in
     let order : List ℕ = c.self.inside.order.items in
@@ -69,22 +69,13 @@ returns-then-not-new-clause-stopped c =
     let x : IndexLists = bare_index c.self.inside.lines.items in
     let r : Rule = c.args.rule.now in
     let there : Contains ks r.label = subst (λ (l : List ℕ). Contains ks l) c.in_ok-label.ensures (c.in_ok-new.ensures.new.0 c.if-not-new.true) in
-    c.label_there.ensures c.args.self.now.theory r refl
-    (subst (λ (v : NetLists). Contains (labels v.theory) r.label) c.self.view_is
-    (subst (λ (ls : List (List ℕ)). Contains ls r.label) (sym (labels_from a ks order [] marks x c.self.invariant.loading.tables)) there))
-
-pub returns-then-not-new-clause-kept : goal.returns-then-not-new-clause-kept
-returns-then-not-new-clause-kept c =
-    let a : List Literal = c.self.inside.names.literals in
-    let ks : List (List ℕ) = c.self.inside.labels.keys in
-    let order : List ℕ = c.self.inside.order.items in
-    let ps : List Pair = pairs_of c.self.inside in
-    let marks : List Bool = c.self.inside.facts.items in
-    let x : IndexLists = bare_index c.self.inside.lines.items in
-    let r : Rule = c.args.rule.now in
     let stay : c.insert_label.new.labels.keys ≡ ks =
-    c.in_ok-new.ensures.keys ∙ ap (λ (v : Bool). ks ++ cond v (c.in_ok-label.label ∷ []) []) c.if-not-new.true ∙ append-nil ks in
-    ap (λ (ls : List (List ℕ)). theory_from a ls order (map (named ls) c.self.inside.pairs) x.lines) stay ∙ ap (λ (v : NetLists). v.theory) c.self.view_is
+    c.in_ok-new.ensures.keys ∙ ap (λ (v : Bool). ks ++ cond v (c.in_ok-label.label ∷ []) []) c.if-not-new.true ∙ append-nil ks in (
+      c.label_there.ensures c.args.self.now.theory r refl
+          (subst (λ (v : NetLists). Contains (labels v.theory) r.label) c.self.view_is
+          (subst (λ (ls : List (List ℕ)). Contains ls r.label) (sym (labels_from a ks order [] marks x c.self.invariant.loading.tables)) there)),
+      ap (λ (ls : List (List ℕ)). theory_from a ls order (map (named ls) c.self.inside.pairs) x.lines) stay ∙ ap (λ (v : NetLists). v.theory) c.self.view_is,
+    )
 
 pub invariant_of-self-in-Ok : goal.invariant_of-self-in-Ok
 invariant_of-self-in-Ok c =
@@ -119,8 +110,8 @@ invariant_of-self-in-Ok c =
           (pairs_within ks (r.label ∷ []) c.self.inside.pairs c.self.invariant.within);
     }
 
-pub returns-in-Ok-clause-accepted : goal.returns-in-Ok-clause-accepted
-returns-in-Ok-clause-accepted c =
+pub returns-in-Ok : goal.returns-in-Ok
+returns-in-Ok c =
     let a : List Literal = c.self.inside.names.literals in
     let ks : List (List ℕ) = c.self.inside.labels.keys in
     let order : List ℕ = c.self.inside.order.items in
@@ -136,28 +127,19 @@ returns-in-Ok-clause-accepted c =
       | else-count-ge-LIMIT-via-else-count-ge-LIMIT w ↦ omega (arith, c.len-count.ensures.len, w.if-count-ge-LIMIT.false)
     ] in
     let accepted : IsAccepted (lists_of c.self.inside) (AddRule r) = new_label a ks order ps marks x r c.self.invariant.loading new few in
-    subst (λ (v : NetLists). IsAccepted v.theory (AddRule r)) c.self.view_is accepted
-
-pub returns-in-Ok-clause-changed : goal.returns-in-Ok-clause-changed
-returns-in-Ok-clause-changed c =
-    let a : List Literal = c.self.inside.names.literals in
-    let ks : List (List ℕ) = c.self.inside.labels.keys in
-    let order : List ℕ = c.self.inside.order.items in
-    let ps : List Pair = pairs_of c.self.inside in
-    let marks : List Bool = c.self.inside.facts.items in
-    let x : IndexLists = bare_index c.self.inside.lines.items in
-    let r : Rule = c.args.rule.now in
     let b : List Literal = c.load_rule.new.names.literals in
     let x' : IndexLists = bare_index c.load_rule.new.lines.items in
     let P : Literal → Type 0 = IsNear (r.head ∷ r.body) in
     let put : c.insert_label.new.labels.keys ≡ ks ++ r.label ∷ [] =
     c.in_ok-new.ensures.keys ∙ ap (λ (v : Bool). ks ++ cond v (c.in_ok-label.label ∷ []) []) c.if-not-new.false
-    ∙ ap (λ (l : List ℕ). ks ++ l ∷ []) c.in_ok-label.ensures in
-    ap (λ (qs : List Pair). theory_from b c.insert_label.new.labels.keys order qs x'.lines)
-    (named_by_more ks r.label c.insert_label.new.labels.keys put c.self.inside.pairs c.self.invariant.within)
-    ∙ put_rule_theory P a b c.load_rule.ensures.grown c.load_rule.ensures.distinct ks order ps marks marks x (λ qs h. h) c.self.invariant.loading
-    r c.in-Ok.ensures.there c.insert_label.new.labels.keys x' put c.in-Ok.ensures.lines
-    ∙ ap (λ (v : NetLists). after_edit v.theory (AddRule r)) c.self.view_is
+    ∙ ap (λ (l : List ℕ). ks ++ l ∷ []) c.in_ok-label.ensures in (
+      subst (λ (v : NetLists). IsAccepted v.theory (AddRule r)) c.self.view_is accepted,
+      ap (λ (qs : List Pair). theory_from b c.insert_label.new.labels.keys order qs x'.lines)
+          (named_by_more ks r.label c.insert_label.new.labels.keys put c.self.inside.pairs c.self.invariant.within)
+          ∙ put_rule_theory P a b c.load_rule.ensures.grown c.load_rule.ensures.distinct ks order ps marks marks x (λ qs h. h) c.self.invariant.loading
+          r c.in-Ok.ensures.there c.insert_label.new.labels.keys x' put c.in-Ok.ensures.lines
+          ∙ ap (λ (v : NetLists). after_edit v.theory (AddRule r)) c.self.view_is,
+    )
 
 pub invariant_of-self-in-Err : goal.invariant_of-self-in-Err
 invariant_of-self-in-Err c =
@@ -186,8 +168,8 @@ invariant_of-self-in-Err c =
       within = subst (λ (ls : List (List ℕ)). All (IsWithin ls) c.self.inside.pairs) (sym cut) c.self.invariant.within;
     }
 
-pub returns-in-Err-clause-kept : goal.returns-in-Err-clause-kept
-returns-in-Err-clause-kept c =
+pub returns-in-Err : goal.returns-in-Err
+returns-in-Err c =
     let a : List Literal = c.self.inside.names.literals in
     let ks : List (List ℕ) = c.self.inside.labels.keys in
     let order : List ℕ = c.self.inside.order.items in
@@ -205,8 +187,10 @@ returns-in-Err-clause-kept c =
     c.keep_first.ensures
     ∙ ap (λ (ls : List (List ℕ)). take c.len-count.result ls) put
     ∙ ap (λ (n : ℕ). take n (ks ++ r.label ∷ [])) c.len-count.ensures.len
-    ∙ take-append_seam ks (r.label ∷ []) in
-    ap (λ (ls : List (List ℕ)). theory_from b ls order (map (named ls) c.self.inside.pairs) x'.lines) cut
-    ∙ named_theory P a b c.load_rule.ensures.grown c.load_rule.ensures.distinct ks order ps marks marks x (λ qs h. h) c.self.invariant.loading x'
-    (same_lines c.self.inside.lines.items c.load_rule.new.lines.items c.in-Err.ensures.kept)
-    ∙ ap (λ (v : NetLists). v.theory) c.self.view_is
+    ∙ take-append_seam ks (r.label ∷ []) in (
+      tt,
+      ap (λ (ls : List (List ℕ)). theory_from b ls order (map (named ls) c.self.inside.pairs) x'.lines) cut
+          ∙ named_theory P a b c.load_rule.ensures.grown c.load_rule.ensures.distinct ks order ps marks marks x (λ qs h. h) c.self.invariant.loading x'
+          (same_lines c.self.inside.lines.items c.load_rule.new.lines.items c.in-Err.ensures.kept)
+          ∙ ap (λ (v : NetLists). v.theory) c.self.view_is,
+    )

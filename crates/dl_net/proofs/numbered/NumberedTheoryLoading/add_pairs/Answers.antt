@@ -1,9 +1,8 @@
 use Rattle.std.proofs.Common.{◌≡◌, [], map, refl, subst}
-use Rattle.std.specs.Prelude.{OnOk, IfErr}
 use Rattle.dl_theory.specs.Lists.{TheoryLists, labels}
 use Rattle.dl_theory.specs.Pairs.{named as by_label}
-use Rattle.dl_theory.specs.Edits.{AreAccepted, after_edits, additions, IsPairsStop}
-use Rattle.dl_theory.proofs.Additions.{changed_whole, answer_keeps}
+use Rattle.dl_theory.specs.Edits.{IsPairsOutcome}
+use Rattle.dl_theory.proofs.Additions.{outcome_keeps}
 use Rattle.dl_net.specs.Numbers.{NetLists}
 use Rattle.dl_net.specs.FromNumbers.{bare_index, with_pairs}
 use Rattle.dl_net.specs.KeptNumbered.{lists_of, IsKeptNumbered}
@@ -20,31 +19,15 @@ invariant_of-self c =
     let h = c.self.invariant in
     record {
       loading = record {
-        formed = answer_keeps T (map (by_label c.self.inside.labels.keys) c.add_labelled.new.self) c.args.pairs.now c.add_labelled.result h.loading.formed
-            (c.add_labelled.ensures.accepted T h.loading.formed (named c.self.inside h) refl)
-            (c.add_labelled.ensures.changed T h.loading.formed (named c.self.inside h) refl)
-            (c.add_labelled.ensures.stopped T h.loading.formed (named c.self.inside h) refl);
+        formed = outcome_keeps T (with_pairs (map (by_label c.self.inside.labels.keys) c.add_labelled.new.self) T) c.args.pairs.now c.add_labelled.result
+            h.loading.formed (c.add_labelled.ensures.added T h.loading.formed (named c.self.inside h) refl);
         tables = h.loading.tables;
       };
       within = c.add_labelled.ensures.within;
     }
 
-pub returns-clause-accepted : goal.returns-clause-accepted
-returns-clause-accepted c =
+pub returns : goal.returns
+returns c =
     let T : TheoryLists = lists_of c.self.inside in
-    subst (λ (v : NetLists). OnOk c.add_labelled.result (AreAccepted v.theory (additions c.args.pairs.now))) c.self.view_is
-    (c.add_labelled.ensures.accepted T c.self.invariant.loading.formed (named c.self.inside c.self.invariant) refl)
-
-pub returns-clause-changed : goal.returns-clause-changed
-returns-clause-changed c =
-    let T : TheoryLists = lists_of c.self.inside in
-    subst (λ (v : NetLists). OnOk c.add_labelled.result (with_pairs (map (by_label c.self.inside.labels.keys) c.add_labelled.new.self) T ≡ after_edits v.theory (additions c.args.pairs.now)))
-    c.self.view_is
-    (changed_whole T (map (by_label c.self.inside.labels.keys) c.add_labelled.new.self) c.args.pairs.now c.add_labelled.result
-    (c.add_labelled.ensures.changed T c.self.invariant.loading.formed (named c.self.inside c.self.invariant) refl))
-
-pub returns-clause-stopped : goal.returns-clause-stopped
-returns-clause-stopped c =
-    let T : TheoryLists = lists_of c.self.inside in
-    subst (λ (v : NetLists). IfErr c.add_labelled.result (IsPairsStop v.theory (with_pairs (map (by_label c.self.inside.labels.keys) c.add_labelled.new.self) T) c.args.pairs.now))
-    c.self.view_is (c.add_labelled.ensures.stopped T c.self.invariant.loading.formed (named c.self.inside c.self.invariant) refl)
+    subst (λ (v : NetLists). IsPairsOutcome v.theory c.args.pairs.now (with_pairs (map (by_label c.self.inside.labels.keys) c.add_labelled.new.self) T) c.add_labelled.result)
+    c.self.view_is (c.add_labelled.ensures.added T c.self.invariant.loading.formed (named c.self.inside c.self.invariant) refl)
