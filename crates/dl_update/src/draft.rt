@@ -1,7 +1,7 @@
 //! A theory with the marks of what follows, which can be shared, and under edits.
 
-ghost use Rattle.std.specs.Prelude.{◌≡◌, IfErr, IfOk, OnErr, OnOk, IsTrue, false};
-ghost use Rattle.dl_theory.specs.Edits.{IsAccepted, IsStopped, after_edit};
+ghost use Rattle.std.specs.Prelude.{◌≡◌, IfOk, OnOk, IsTrue, false};
+ghost use Rattle.dl_theory.specs.Edits.{IsEdited};
 ghost use Rattle.dl_theory.specs.Lists.{IsWellFormed};
 ghost use Rattle.dl_theory.specs.Laws.{IsCoherent, IsConsistent, IsInclusive, IsLeastClosed};
 ghost use Rattle.dl_marks.specs.Marks.{IsFrozen};
@@ -156,10 +156,7 @@ impl Draft<Net> {
     /// it may have numbered the literals of the edit and their complements. No mark of a literal that has a number changes
     /// before all memory is there.
     pub fn touch<L: Ledger>(&mut self, edit: &Edit, steps: &mut Steps<L>) -> Result<(), EditStop>
-        ensures accepted { OnOk result (IsAccepted self.old.theory edit.now) }
-        ensures changed { OnOk result (self.new.theory ≡ after_edit self.old.theory edit.now) }
-        ensures stopped { IfErr result (IsStopped self.old.theory edit.now) }
-        ensures kept { OnErr result (self.new.theory ≡ self.old.theory) }
+        ensures edited { IsEdited self.old.theory edit.now self.new.theory result }
         ensures names { Grows (IsNear (edit_literals edit.now)) self.old.names self.new.names }
         ensures families { self.new.families ≡ self.old.families }
         ensures frozen { self.new.frozen ≡ false }
@@ -173,10 +170,7 @@ impl Draft<Net> {
 
     /// Makes an edit, or says why it is refused.
     fn change<L: Ledger>(&mut self, edit: &Edit, steps: &mut Steps<L>) -> Result<(), EditStop>
-        ensures accepted { OnOk result (IsAccepted self.old.theory edit.now) }
-        ensures changed { OnOk result (self.new.theory ≡ after_edit self.old.theory edit.now) }
-        ensures stopped { IfErr result (IsStopped self.old.theory edit.now) }
-        ensures kept { OnErr result (self.new.theory ≡ self.old.theory) }
+        ensures edited { IsEdited self.old.theory edit.now self.new.theory result }
         ensures names { Grows (IsNear (edit_literals edit.now)) self.old.names self.new.names }
         ensures families { self.new.families ≡ self.old.families }
         ensures frozen { self.new.frozen ≡ false }
