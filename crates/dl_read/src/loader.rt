@@ -2,7 +2,8 @@
 
 ghost use Rattle.std.specs.Prelude.{◌≡◌, ◌+◌, [], ◌∷◌, ◌++◌, List, length, None, Some, IfOk, IfErr, OnOk, is_some};
 ghost use Rattle.dl_theory.specs.declared.edit.Edit.TheVariants as edit;
-ghost use Rattle.dl_read.specs.Files.{label_of, placed, Placed, AreMade, IsLoadStop, in_loading_order, AddsPairs, IsWaitingStop};
+ghost use Rattle.dl_theory.specs.Edits.{AddsPairs};
+ghost use Rattle.dl_read.specs.Files.{label_of, placed, Placed, AreMade, IsLoadStop, in_loading_order, IsWaitingStop};
 ghost use Rattle.dl_read.specs.Loading.{IsNoted};
 ghost use Rattle.dl_read.specs.declared.statement.Statement.{Statement};
 

@@ -15,6 +15,5 @@ returns-clause-taken g c =
     on_ok_weaker c.note.result
     (λ noted ps h. take_answered c.args.self.now.refused c.note.new.refused (g.T.Loading.lists c.args.self.now.target)
     (g.T.Loading.lists c.add_fact-answer.new.self) ps c.args.line (AddFact c.args.fact) c.add_fact-answer.result
-    (sym c.has_refused.ensures ∙ c.if-has_refused.false) c.add_fact-answer.ensures.accepted c.add_fact-answer.ensures.changed
-    c.add_fact-answer.ensures.stopped noted h)
+    (sym c.has_refused.ensures ∙ c.if-has_refused.false) c.add_fact-answer.ensures noted h)
     c.note.ensures

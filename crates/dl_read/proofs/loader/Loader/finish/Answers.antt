@@ -1,7 +1,8 @@
 use Rattle.std.proofs.Common.{ap, sym, subst, ◌∙◌, length}
 use Rattle.std.proofs.lemmas.Result.{IfOk-weaker, MatchResult-weaker}
+use Rattle.dl_theory.specs.Edits.{AddsPairs}
 use Rattle.dl_read.specs.declared.file.ReadStop.{ReadStop}
-use Rattle.dl_read.specs.Files.{pairs, in_loading_order, IsLoadStop, AddsPairs}
+use Rattle.dl_read.specs.Files.{pairs, in_loading_order, IsLoadStop}
 use Rattle.dl_read.specs.Loading.{held}
 use Rattle.dl_read.proofs.Loading.{waits_lengths, finish_refused, finish_loaded, finish_stopped}
 use Rattle.dl_read.proofs.loader.Loader.finish.Goals as goal
