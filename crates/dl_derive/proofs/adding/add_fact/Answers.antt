@@ -13,8 +13,8 @@ pub only_memory-requires : goal.only_memory-requires
 only_memory-requires c = λ x e.
     fact_fits c.args.net.now.theory c.args.theory.now c.names-names.ensures.formed c.has_fact.ensures.well_formed c.args.fact
     c.requires.within c.requires.there (λ m. true≢false (sym (c.has_fact.ensures.value.1 m) ∙ c.if-has_fact.false)) x
-    (subst (λ (s : EditStop). IsStopped c.args.theory.now (AddFact c.args.fact) s) e c.in-Err.ensures.stopped)
+    (subst (λ (s : EditStop). IsStopped c.args.theory.now (AddFact c.args.fact) s) e c.in-Err.ensures.0)
 
 pub returns-in-Ok-clause-facts : goal.returns-in-Ok-clause-facts
 returns-in-Ok-clause-facts c =
-    adds_push c.args.fact c.args.theory.now.facts c.apply_owned.new.self.facts (ap (λ (t : TheoryLists). t.facts) c.in-Ok.ensures.changed)
+    adds_push c.args.fact c.args.theory.now.facts c.apply_owned.new.self.facts (ap (λ (t : TheoryLists). t.facts) c.in-Ok.ensures.1)

@@ -17,8 +17,8 @@ pub only_memory-requires : goal.only_memory-requires
 only_memory-requires c = λ x e.
     rule_fits c.args.net.now.theory c.args.theory.now c.names-names.ensures.formed c.rule_place.ensures.well_formed c.args.rule
     c.requires.within c.requires.there c.in-None.ensures.absent x
-    (subst (λ (s : EditStop). IsStopped c.args.theory.now (AddRule c.args.rule) s) e c.in-Err.ensures.stopped)
+    (subst (λ (s : EditStop). IsStopped c.args.theory.now (AddRule c.args.rule) s) e c.in-Err.ensures.0)
 
 pub returns-in-Ok-clause-rules : goal.returns-in-Ok-clause-rules
 returns-in-Ok-clause-rules c =
-    adds_push c.args.rule c.args.theory.now.rules c.apply_owned.new.self.rules (ap (λ (t : TheoryLists). t.rules) c.in-Ok.ensures.changed)
+    adds_push c.args.rule c.args.theory.now.rules c.apply_owned.new.self.rules (ap (λ (t : TheoryLists). t.rules) c.in-Ok.ensures.1)

@@ -18,7 +18,7 @@ invariant_of-self-in-Ok g c =
     c.push_reserved.ensures.items ∙ ap (λ (l : List Entry). l ++ e ∷ []) c.in_ok-reserve.ensures.items in
     subst (λ (h : List Entry). IsKept (record { start = i.start; history = h; enrolled = i.count }) c.touch.new.self.theory i.editions.items i.book.total)
     (sym grown)
-    (keeps_edit _ _ _ _ c.self.invariant c.args.seat here c.touch.new.self.theory c.args.edit c.in-Ok.ensures.accepted c.in-Ok.ensures.changed)
+    (keeps_edit _ _ _ _ c.self.invariant c.args.seat here c.touch.new.self.theory c.args.edit c.in-Ok.ensures.edited.0 c.in-Ok.ensures.edited.1)
 
 pub returns-in-Ok-clause-legal : goal.returns-in-Ok-clause-legal
 returns-in-Ok-clause-legal g c = (invariant_of-self-in-Ok g c).legal
@@ -30,12 +30,12 @@ invariant_of-self-in-Err-Refused g c =
     let e : Entry = entry c.args.seat (Edit c.args.edit) (EditRefused x) in
     let here = subst (λ (V : BoardLists). c.args.seat < V.enrolled) (sym c.self.view_is) c.requires.seat in
     let refused : IsRefused i.draft.theory c.args.edit x =
-    subst (λ (stop : EditStop). IsStopped i.draft.theory c.args.edit stop) c.in-Err-Refused.field-0-is c.in-Err-Refused.ensures.stopped in
+    subst (λ (stop : EditStop). IsStopped i.draft.theory c.args.edit stop) c.in-Err-Refused.field-0-is c.in-Err-Refused.ensures.edited.0 in
     let grown : c.push_reserved-in-Err-Refused.new.self.items ≡ i.entries.items ++ e ∷ [] =
     c.push_reserved-in-Err-Refused.ensures.items ∙ ap (λ (l : List Entry). l ++ e ∷ []) c.in_ok-reserve.ensures.items in
     subst (λ (h : List Entry). IsKept (record { start = i.start; history = h; enrolled = i.count }) c.touch.new.self.theory i.editions.items i.book.total)
     (sym grown)
-    (keeps_refusal _ _ _ _ c.self.invariant c.args.seat here c.touch.new.self.theory c.args.edit x refused c.in-Err-Refused.ensures.kept)
+    (keeps_refusal _ _ _ _ c.self.invariant c.args.seat here c.touch.new.self.theory c.args.edit x refused c.in-Err-Refused.ensures.edited.1)
 
 pub returns-in_ok-told-in-Err-Refused-clause-legal : goal.returns-in_ok-told-in-Err-Refused-clause-legal
 returns-in_ok-told-in-Err-Refused-clause-legal g c = (invariant_of-self-in-Err-Refused g c).legal
