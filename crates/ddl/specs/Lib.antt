@@ -5,4 +5,5 @@ pub mod Theories
 pub mod Checks
 pub mod Replies
 pub mod Certified
+pub mod Serve
 pub mod Run

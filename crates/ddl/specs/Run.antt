@@ -1,5 +1,5 @@
 -- What a run of the program is.
-use Rattle.std.specs.Prelude.{◌≡◌, ◌⊎◌, ℕ, ◌+◌, ◌<◌, ◌≤◌, length, Bool, List, [], ◌∷◌, ◌++◌, Option, None, Some, IsTrue}
+use Rattle.std.specs.Prelude.{◌≡◌, ◌⊎◌, ℕ, ◌+◌, ◌<◌, ◌≤◌, length, Bool, List, [], ◌∷◌, ◌++◌, Option, None, Some, IsTrue, if◌then◌else◌}
 use Rattle.dl_lit.specs.declared.literal.Family.{Family}
 use Rattle.dl_io.specs.Outside.{Rose, at_name}
 use Rattle.dl_io.specs.Streams.{IsFront}
@@ -14,13 +14,17 @@ use Rattle.dl_conclusions.specs.Conclusions.{AreConclusions}
 use Rattle.ddl.specs.declared.reply.Reply.TheVariants as reply
 use Rattle.ddl.specs.declared.refusal.Refusal.TheVariants as refusal
 use Rattle.ddl.specs.declared.check.Checked.{Checked}
-use Rattle.ddl.specs.Words.{Form, Conclude, Print, Check, form, file_of}
+use Rattle.dl_lines.specs.declared.reader.TheConstants.{MOST_BYTES}
+use Rattle.dl_journal.specs.Names.{output_names, is_among}
+use Rattle.dl_journal.specs.Streams.{GrowsBy}
+use Rattle.ddl.specs.Words.{Form, Conclude, Print, Check, Serve, form, file_of}
 use Rattle.ddl.specs.Theories.{limit, IsTheoryFile, IsRefusal, refused_line}
 use Rattle.ddl.specs.Checks.{IsOnlyChecked}
 use Rattle.ddl.specs.Whole.{TakesAtMost}
 use Rattle.dl_conclusions.specs.Text.{conclusions_text}
 use Rattle.ddl.specs.declared.reply.Reply.{Reply}
 use Rattle.ddl.specs.Replies.{usage_line, reply_status, reply_text}
+use Rattle.ddl.specs.Serve.{Serves}
 
 -- what was handed on to standard output, and the status
 pub record Outcome : Type 0 where
@@ -59,17 +63,37 @@ files_for None = []
 files_for (Some (Conclude f file)) = file ∷ []
 files_for (Some (Print file)) = file ∷ []
 files_for (Some (Check theory cert)) = theory ∷ cert ∷ []
+files_for (Some (Serve theory names)) = theory ∷ names
 
 abbrev pub files_of : List (List ℕ) → List (List ℕ)
 files_of words = files_for (form words)
 
--- a list grew by the first of these names
-abbrev pub GrowsBy : List (List ℕ) → List (List ℕ) → List (List ℕ) → Type 0
-GrowsBy old new names = (first : List (List ℕ)) × (more : List (List ℕ)) × (names ≡ first ++ more) × (new ≡ old ++ first)
+-- what is opened for output, in order
+abbrev pub outputs_for : Option Form → List (List ℕ)
+outputs_for None = standard ∷ []
+outputs_for (Some (Conclude f file)) = standard ∷ []
+outputs_for (Some (Print file)) = standard ∷ []
+outputs_for (Some (Check theory cert)) = standard ∷ []
+outputs_for (Some (Serve theory names)) = standard ∷ output_names names
 
--- Under a name nothing was read, or at most one byte more than the limit of what it holds.
+abbrev pub outputs_of : List (List ℕ) → List (List ℕ)
+outputs_of words = outputs_for (form words)
+
+-- Under a name nothing was read, or at most so many bytes of what it holds.
+abbrev pub ReadsAtMost : (List ℕ → ℕ) → HouseState → HouseState → Type 0
+ReadsAtMost most old new = (name : List ℕ) → (new.left name ≡ old.left name) ⊎ TakesAtMost (most name) (old.holds name) (new.left name)
+
+-- one byte more than the limit of a file
 abbrev pub ReadsWithin : HouseState → HouseState → Type 0
-ReadsWithin old new = (name : List ℕ) → (new.left name ≡ old.left name) ⊎ TakesAtMost (limit + 1) (old.holds name) (new.left name)
+ReadsWithin old new = ReadsAtMost (λ name. limit + 1) old new
+
+-- how many bytes may be read under a name: of a session's input, and of another file
+abbrev pub most_for : Option Form → List ℕ → ℕ
+most_for None name = limit + 1
+most_for (Some (Conclude f file)) name = limit + 1
+most_for (Some (Print file)) name = limit + 1
+most_for (Some (Check theory cert)) name = limit + 1
+most_for (Some (Serve theory names)) name = if is_among name names then MOST_BYTES else limit + 1
 
 -- names were opened for input, read and settled, and nothing else
 pub record ReadsOnly (old new : HouseState) (names : List (List ℕ)) : Type 0 where
@@ -90,6 +114,7 @@ abbrev pub MayEnd : Option Form → List (List ℕ) → Status → Type 0
 MayEnd None names ends = (names ≡ []) × (ends ≡ status.Usage)
 MayEnd (Some (Conclude f file)) names ends = (names ≡ file ∷ []) × ((ends ≡ status.Done) ⊎ (ends ≡ status.Refused))
 MayEnd (Some (Print file)) names ends = (names ≡ file ∷ []) × ((ends ≡ status.Done) ⊎ (ends ≡ status.Refused))
+MayEnd (Some (Serve theory sessions)) names ends = (names ≡ theory ∷ []) × (ends ≡ status.Refused)
 MayEnd (Some (Check theory cert)) names ends = ((names ≡ theory ∷ []) × (ends ≡ status.Refused)) ⊎ ((names ≡ theory ∷ cert ∷ []) × MayJudge ends)
 
 -- The words ask for this, and these names are opened for it.
@@ -126,27 +151,50 @@ Stops tells old new words =
     → ((new.wrote ≡ old.wrote) × (new.asked_in ≡ old.asked_in))
     ⊎ ((front : List ℕ) × IsBegun words old.holds front × (new.wrote ≡ at_name old.wrote standard (Some front)))
 
+-- No sessions are asked for, or the file of their theory is refused.
+abbrev pub IsUnserved : Bool → (List ℕ → Option (List ℕ)) → Option Form → Type 0
+IsUnserved tells holds None = Unit {0}
+IsUnserved tells holds (Some (Conclude f file)) = Unit {0}
+IsUnserved tells holds (Some (Print file)) = Unit {0}
+IsUnserved tells holds (Some (Check theory cert)) = Unit {0}
+IsUnserved tells holds (Some (Serve theory names)) = IsTrue tells → (bytes : List ℕ) × (x : Refusal) × (holds theory ≡ Some bytes) × IsRefusal bytes x
+
 -- The outside failed.
 pub record Fails (tells : Bool) (old new : HouseState) (words : List (List ℕ)) (ends : Status) : Type 0 where
   pub fault : ends ≡ status.Fault
   pub rose : Rose old.faults new.faults
   pub front : Stops tells old new words
+  pub unserved : IsUnserved tells old.holds (form words)
 
 -- There was no memory. Nothing failed.
 pub record Lacks (tells : Bool) (old new : HouseState) (words : List (List ℕ)) (ends : Status) : Type 0 where
   pub memory : ends ≡ status.Memory
   pub no_fault : new.faults ≡ old.faults
   pub front : Stops tells old new words
+  pub unserved : IsUnserved tells old.holds (form words)
 
+-- Sessions were asked for, and were served or did not begin.
+pub record ServesNames (tells : Bool) (old new : HouseState) (words : List (List ℕ)) (before : List (List ℕ)) (ends : Status) : Type 0 where
+  pub theory : List ℕ
+  pub names : List (List ℕ)
+  pub asks : form words ≡ Some (Serve theory names)
+  pub serves : Serves tells old new theory names (before ++ output_names names) ends
+
+-- What came of the words, where these names were opened for output before those of sessions.
+abbrev pub AnswersBehind : List (List ℕ) → Bool → HouseState → HouseState → List (List ℕ) → Status → Type 0
+AnswersBehind before tells old new words ends =
+    Says tells old new words ends ⊎ (Fails tells old new words ends ⊎ (Lacks tells old new words ends ⊎ ServesNames tells old new words before ends))
+
+-- The program said what its words ask for, the outside failed, there was no memory, or sessions were asked for.
 abbrev pub Answers : Bool → HouseState → HouseState → List (List ℕ) → Status → Type 0
-Answers tells old new words ends = Says tells old new words ends ⊎ (Fails tells old new words ends ⊎ Lacks tells old new words ends)
+Answers tells old new words ends = AnswersBehind (standard ∷ []) tells old new words ends
 
 -- a run of the program
 pub record Runs (tells : Bool) (old new : HouseState) (words : List (List ℕ)) (ends : Status) : Type 0 where
   pub shut : IsShut new
   pub asked_in : GrowsBy old.asked_in new.asked_in (files_of words)
-  pub asked_out : GrowsBy old.asked_out new.asked_out (standard ∷ [])
-  pub within : ReadsWithin old new
+  pub asked_out : GrowsBy old.asked_out new.asked_out (outputs_of words)
+  pub within : ReadsAtMost (most_for (form words)) old new
   pub answer : Answers tells old new words ends
 
 -- The words ask whether these bytes are a certificate of this theory.

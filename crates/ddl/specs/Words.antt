@@ -1,23 +1,31 @@
 -- The words of the command line.
-use Rattle.std.specs.Prelude.{ℕ, List, [], ◌∷◌, Option, None, Some, if◌then◌else◌, codes, string_bytes}
+use Rattle.std.specs.Prelude.{ℕ, List, [], ◌∷◌, ◌++◌, map, Bool, true, false, not, ◌&&◌, Option, None, Some, if◌then◌else◌, codes, string_bytes}
 use Rattle.std.specs.Option.{option_map}
 use Rattle.std.specs.Str.{bytes_eq}
 use Rattle.dl_lit.specs.declared.literal.Family.{Family}
 use Rattle.dl_lit.specs.declared.literal.Family.TheVariants.{Definite, Blocking, Propagating, Support}
+use Rattle.dl_journal.specs.Names.{output_names, is_among}
 use Rattle.ddl.specs.declared.words.Command.{Command}
 use Rattle.ddl.specs.declared.words.Command.TheVariants as command
+use Rattle.ddl.specs.declared.words.Asked.{Asked}
+use Rattle.ddl.specs.declared.words.Asked.TheVariants as asked
 
--- what words of some form ask for: the conclusions of a file in a family, its canonical text, or whether a second file is
--- a certificate of the first
+-- what words of some form ask for: the conclusions of a file in a family, its canonical text, whether a second file is
+-- a certificate of the first, or sessions from the theory in a file, each under a name
 pub data Form : Type 0 where
   Conclude : Family → List ℕ → Form
   Print : List ℕ → Form
   Check : List ℕ → List ℕ → Form
+  Serve : List ℕ → List (List ℕ) → Form
 
 abbrev pub form_of : Command → Form
 form_of (command.Conclude f file) = Conclude f (string_bytes file.now)
 form_of (command.Print file) = Print (string_bytes file.now)
 form_of (command.Check theory cert) = Check (string_bytes theory.now) (string_bytes cert.now)
+
+abbrev pub asked_form : Asked → Form
+asked_form (asked.Command command) = form_of command
+asked_form (asked.Serve theory names) = Serve (string_bytes theory.now) (map string_bytes names.now)
 
 -- the letter of a family
 abbrev pub family_of : List ℕ → Option Family
@@ -41,11 +49,31 @@ check_form [] cert = None
 check_form (byte ∷ bytes) [] = None
 check_form (byte ∷ bytes) (code ∷ more) = Some (Check (byte ∷ bytes) (code ∷ more))
 
+-- no word is empty, and none comes twice
+abbrev pub are_names : List (List ℕ) → Bool
+are_names [] = true
+are_names ([] ∷ more) = false
+are_names ((byte ∷ bytes) ∷ more) = not (is_among (byte ∷ bytes) more) && are_names more
+
+-- none of the words is one of the others
+abbrev pub are_apart : List (List ℕ) → List (List ℕ) → Bool
+are_apart [] others = true
+are_apart (word ∷ more) others = not (is_among word others) && are_apart more others
+
+-- the theory and the names of sessions: none is empty, none comes twice, and none is the output of a session
+abbrev pub may_serve : List ℕ → List (List ℕ) → Bool
+may_serve theory names = are_names (theory ∷ names) && are_apart (theory ∷ names) (output_names names)
+
+-- for now of one session
+abbrev pub serve_form : List ℕ → List ℕ → Option Form
+serve_form theory name = if may_serve theory (name ∷ []) then Some (Serve theory (name ∷ [])) else None
+
 -- the form of three words
 abbrev pub form_of_three : List ℕ → List ℕ → List ℕ → Option Form
 form_of_three command second third =
     if bytes_eq command (codes "conclude") then conclude_form second third
-    else (if bytes_eq command (codes "check") then check_form second third else None)
+    else (if bytes_eq command (codes "check") then check_form second third
+    else (if bytes_eq command (codes "serve") then serve_form second third else None))
 
 -- the form of the words, if they have one
 abbrev pub form : List (List ℕ) → Option Form
@@ -58,9 +86,11 @@ abbrev pub file_of : Form → List ℕ
 file_of (Conclude f file) = file
 file_of (Print file) = file
 file_of (Check theory cert) = theory
+file_of (Serve theory names) = theory
 
 -- the file of the theory is the only one
 abbrev pub IsAlone : Form → Type 0
 IsAlone (Conclude f file) = Unit {0}
 IsAlone (Print file) = Unit {0}
 IsAlone (Check theory cert) = ⊥
+IsAlone (Serve theory names) = ⊥

@@ -13,6 +13,8 @@ mod print;
 mod program;
 mod refusal;
 mod reply;
+mod serve;
+mod sessions;
 mod status;
 mod theory_file;
 mod whole;

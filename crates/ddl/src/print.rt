@@ -112,7 +112,7 @@ fn write_reply<S: Sink>(alloc: Global, sink: &mut S, reply: &Reply) -> Result<()
 }
 
 /// Hands on what was written.
-fn hand_on<S: Sink>(sink: &mut S) -> Result<(), Failed>
+pub fn hand_on<S: Sink>(sink: &mut S) -> Result<(), Failed>
     ensures bytes { S.written sink.new ≡ S.written sink.old }
     ensures handed { HandsOn (S.handed sink.new) (S.written sink.new) result }
     ensures front { IsKnownFront (S.handed sink.new) (S.written sink.new) }

@@ -16,10 +16,11 @@ use crate::conclusion::conclusions;
 use crate::print::print;
 use crate::refusal::Refusal;
 use crate::reply::{Reply, status_of};
+use crate::serve::serve;
 use crate::status::Status;
 use crate::theory_file::{Loaded, load, read};
 use crate::whole::Stop;
-use crate::words::{Command, command_of};
+use crate::words::{Asked, Command, asked_of};
 use dl_io::{Failed, House, OpenStop, Sink};
 use dl_lit::{Family, Memory};
 use dl_net::NumberedTheory;
@@ -135,22 +136,6 @@ fn reply_of<H: House>(alloc: Global, command: Command<'_>, house: &mut H) -> Res
     }
 }
 
-// The reply to the words. Files are read and settled; nothing is written.
-fn reply_to<H: House>(alloc: Global, words: &Vec<String>, house: &mut H) -> Result<Reply, Stop>
-    requires { (name : List ℕ) → (H.state house.old).open_in name ≡ false }
-    ensures house { ReadsOnly (H.state house.old) (H.state house.new) (files_of (map string_bytes words.now.items)) }
-    ensures cause { HasFault (H.state house.old).faults (H.state house.new).faults result }
-    ensures reply { IfOk result (Replies H.tells (H.state house.old) (H.state house.new) (form (map string_bytes words.now.items))) }
-{
-    match command_of(words) {
-        Some(command) => {
-            let reply = reply_of(alloc, command, house)?;
-            Ok(reply)
-        }
-        None => Ok(Reply::Usage),
-    }
-}
-
 // Prints a reply, hands it on, and leaves what it holds to the system.
 fn say<S: Sink>(alloc: Global, sink: &mut S, reply: Reply) -> Result<(), Failed>
     ensures bytes { WritesAll (S.written sink.old) (S.written sink.new) result (reply_text reply) }
@@ -164,17 +149,10 @@ fn say<S: Sink>(alloc: Global, sink: &mut S, reply: Reply) -> Result<(), Failed>
     printed
 }
 
-// Replies to the words on a new sink, which is then to be settled as standard output.
-fn respond<H: House>(alloc: Global, words: &Vec<String>, house: &mut H, sink: &mut H::Out) -> Status
-    requires shut { (name : List ℕ) → (H.state house.old).open_in name ≡ false }
-    requires opened { IsOpenedOut H.tells standard (H.Out.written sink.old) (H.Out.handed sink.old) (H.Out.name sink.old) (H.Out.faults sink.old) }
-    ensures house { ReadsOnly (H.state house.old) (H.state house.new) (files_of (map string_bytes words.now.items)) }
-    ensures name { H.Out.name sink.new ≡ standard }
-    ensures answer { Answers H.tells (H.state house.old)
-        (settled_out (H.state house.new) standard (H.Out.handed sink.new) (H.Out.faults sink.new))
-        (map string_bytes words.now.items) result }
+// Prints the reply, unless there is none for want of memory or a fault.
+fn answer<S: Sink>(alloc: Global, sink: &mut S, reply: Result<Reply, Stop>) -> Status
 {
-    match reply_to(alloc, words, house) {
+    match reply {
         Ok(reply) => {
             let status = status_of(&reply);
             match say(alloc, sink, reply) {
@@ -184,6 +162,43 @@ fn respond<H: House>(alloc: Global, words: &Vec<String>, house: &mut H, sink: &m
         }
         Err(Stop::Fault) => Status::Fault,
         Err(Stop::Memory) => Status::Memory,
+    }
+}
+
+// Serves sessions from the theory in a file, or says why it gives none.
+fn serve_file<R: Threads + Wait + Sync, H: House>(
+    rt: &R,
+    alloc: Global,
+    file: &String,
+    names: &[String],
+    house: &mut H,
+    sink: &mut H::Out,
+) -> Status
+{
+    match load(alloc, house, file, Theory::make(alloc)) {
+        Ok(Loaded::Theory(theory)) => serve(rt, alloc, &theory, names, house, sink),
+        Ok(Loaded::Refused(refusal)) => answer(alloc, sink, Ok(Reply::Refused(refusal))),
+        Err(Stop::Fault) => Status::Fault,
+        Err(Stop::Memory) => Status::Memory,
+    }
+}
+
+// Answers the words on a new sink, which is then to be settled as standard output.
+fn respond<R: Threads + Wait + Sync, H: House>(
+    rt: &R,
+    alloc: Global,
+    words: &Vec<String>,
+    house: &mut H,
+    sink: &mut H::Out,
+) -> Status
+{
+    match asked_of(words) {
+        Some(Asked::Serve(file, names)) => serve_file(rt, alloc, file, names, house, sink),
+        Some(Asked::Command(command)) => {
+            let reply = reply_of(alloc, command, house);
+            answer(alloc, sink, reply)
+        }
+        None => answer(alloc, sink, Ok(Reply::Usage)),
     }
 }
 
@@ -197,13 +212,12 @@ pub fn run<R: Threads + Wait + Sync, H: House>(
     requires { IsShut (H.state house.old) }
     ensures { Runs H.tells (H.state house.old) (H.state house.new) (map string_bytes words.now.items) result }
 {
-    let _ = rt;
     let Ok(dash) = String::from_str(alloc, "-") else {
         return Status::Memory;
     };
     match house.output(&dash) {
         Ok(mut sink) => {
-            let status = respond(alloc, words, house, &mut sink);
+            let status = respond(rt, alloc, words, house, &mut sink);
             house.settle_out(&dash, sink);
             status
         }

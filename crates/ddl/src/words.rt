@@ -1,8 +1,10 @@
 //! The words of the command line.
 
-ghost use Rattle.std.specs.Prelude.{◌≡◌, map, string_bytes};
+ghost use Rattle.std.specs.Prelude.{◌≡◌, ◌∷◌, [], false, codes, map, string_bytes};
+ghost use Rattle.std.specs.Str.{bytes_eq};
+ghost use Rattle.dl_journal.specs.Names.{output_name};
 ghost use Rattle.std.specs.Option.{option_map};
-ghost use Rattle.ddl.specs.Words.{form, form_of, form_of_three, conclude_form, check_form, family_of};
+ghost use Rattle.ddl.specs.Words.{form, form_of, asked_form, form_of_three, conclude_form, check_form, serve_form, family_of};
 
 use dl_lit::Family;
 
@@ -15,6 +17,14 @@ pub enum Command<'a> {
     Print(&'a String),
     /// Whether the second file is a certificate of the theory in the first.
     Check(&'a String, &'a String),
+}
+
+/// What the words ask for: a reply, or sessions.
+#[derive(Clone, Copy)]
+pub enum Asked<'a> {
+    Command(Command<'a>),
+    /// Sessions from the theory in a file, each under a name.
+    Serve(&'a String, &'a [String]),
 }
 
 fn family_of(word: &str) -> Option<Family>
@@ -53,25 +63,54 @@ fn check<'a>(theory: &'a String, cert: &'a String) -> Option<Command<'a>>
     }
 }
 
-fn command_of_three<'a>(command: &str, second: &'a String, third: &'a String) -> Option<Command<'a>>
-    ensures { option_map form_of result ≡ form_of_three command.now (string_bytes second.now) (string_bytes third.now) }
+/// Whether the word is the output of a session with this name.
+fn is_output(word: &str, name: &str) -> bool
+    ensures { result ≡ bytes_eq word.now (output_name name.now) }
 {
-    if command == "conclude" {
-        conclude(second.as_str(), third)
-    } else if command == "check" {
-        check(second, third)
-    } else {
-        None
+    match word.as_bytes().strip_suffix(b".out") {
+        Some(front) => front == name.as_bytes(),
+        None => false,
     }
 }
 
-/// The command of these words, if they have a form.
-pub fn command_of(words: &Vec<String>) -> Option<Command<'_>>
-    ensures { option_map form_of result ≡ form (map string_bytes words.now.items) }
+/// Sessions from the theory in a file. These are the names of one, for now.
+fn serve<'a>(theory: &'a String, name: &'a String, names: &'a [String]) -> Option<Asked<'a>>
+    requires { map string_bytes names.now ≡ string_bytes name.now ∷ [] }
+    ensures { option_map asked_form result ≡ serve_form (string_bytes theory.now) (string_bytes name.now) }
+{
+    if theory.is_empty() || name.is_empty() {
+        return None;
+    }
+    if theory.as_str() == name.as_str() || is_output(theory.as_str(), name.as_str()) {
+        return None;
+    }
+    Some(Asked::Serve(theory, names))
+}
+
+fn command_of_three<'a>(command: &str, second: &'a String, third: &'a String) -> Option<Asked<'a>>
+    requires { bytes_eq command.now (codes "serve") ≡ false }
+    ensures { option_map asked_form result ≡ form_of_three command.now (string_bytes second.now) (string_bytes third.now) }
+{
+    let asked = if command == "conclude" {
+        conclude(second.as_str(), third)?
+    } else if command == "check" {
+        check(second, third)?
+    } else {
+        return None;
+    };
+    Some(Asked::Command(asked))
+}
+
+/// What these words ask for, if they have a form.
+pub fn asked_of(words: &Vec<String>) -> Option<Asked<'_>>
+    ensures { option_map asked_form result ≡ form (map string_bytes words.now.items) }
 {
     match words.as_slice() {
         [command, file] if command.as_str() == "print" && !file.is_empty() => {
-            Some(Command::Print(file))
+            Some(Asked::Command(Command::Print(file)))
+        }
+        [command, theory, name] if command.as_str() == "serve" => {
+            serve(theory, name, &words.as_slice()[2..])
         }
         [command, second, third] => command_of_three(command.as_str(), second, third),
         _ => None,

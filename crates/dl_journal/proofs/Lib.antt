@@ -1,0 +1,4 @@
+pub mod Names
+pub mod Opened
+pub mod Settled
+pub mod Undone

@@ -1,0 +1,25 @@
+-- What is printed after sessions were served: the journal, and how each session ended.
+use Rattle.std.specs.Prelude.{ℕ, ◌+◌, List, [], ◌∷◌, ◌++◌, codes, decimal}
+use Rattle.dl_calls.specs.declared.entry.Entry.{Entry}
+use Rattle.dl_calls.specs.Text.{journal_text}
+use Rattle.dl_session.specs.declared.end.End.{End}
+use Rattle.dl_session.specs.declared.end.End.TheVariants.{Done, ReadFault, WriteFault, Spent}
+
+abbrev pub end_words : End → List ℕ
+end_words Done = codes "done"
+end_words ReadFault = codes "read fault"
+end_words WriteFault = codes "write fault"
+end_words Spent = codes "spent"
+
+-- `session K ` and how it ended, as a line
+abbrev pub end_line : ℕ → End → List ℕ
+end_line number end = codes "session " ++ (decimal number ++ (codes " " ++ (end_words end ++ 10 ∷ [])))
+
+-- the same for each session, in order, from this number on
+abbrev pub ends_text : ℕ → List End → List ℕ
+ends_text number [] = []
+ends_text number (end ∷ more) = end_line number end ++ ends_text (number + 1) more
+
+-- a line for each entry of the history, and then one for each session
+abbrev pub served_text : List Entry → List End → List ℕ
+served_text history ends = journal_text history ++ ends_text 0 ends
