@@ -1,12 +1,12 @@
 -- A house after names were opened, or not all of them.
-use Rattle.std.proofs.Common.{◌≡◌, ◌∙◌, ◌⊎◌, ◌≤◌, inl, inr, ℕ, zero, suc, List, [], ◌∷◌, ◌++◌, Bool, true, false, refl, sym, ap, subst, arith, cond, length, take, drop, Some, Option, append-nil, append_assoc, take-append-drop}
+use Rattle.std.proofs.Common.{◌≡◌, ◌∙◌, ◌≤◌, ℕ, List, [], ◌∷◌, ◌++◌, Bool, true, false, refl, sym, ap, subst, arith, cond, length, take, Some, append-nil, append_assoc}
 use Rattle.std.specs.Prelude.{◌||◌, slice_get}
 use Rattle.std.specs.Str.{bytes_eq}
 use Rattle.std.specs.Option.{option_map}
-use Rattle.dl_io.specs.Outside.{raised, at_name}
-use Rattle.dl_io.specs.House.{HouseState, emptied, standard}
-use Rattle.dl_journal.specs.Names.{output_name, output_names, is_among, AreDistinct}
-use Rattle.dl_journal.specs.Streams.{Told, opened_pair, opened_all, IsFresh, AreFresh, IsOpen, AreOpen}
+use Rattle.dl_io.specs.Outside.{at_name}
+use Rattle.dl_io.specs.House.{HouseState, standard}
+use Rattle.dl_journal.specs.Names.{output_name, output_names, is_among}
+use Rattle.dl_journal.specs.Streams.{Told, opened_pair, opened_all, IsFresh, AreFresh, AreOpen}
 use Rattle.dl_journal.proofs.Names.{or_false, or_right, first_among}
 
 -- what no opening changes, and the names that were asked for

@@ -1,13 +1,12 @@
 -- A house after streams were settled.
-use Rattle.std.proofs.Common.{◌≡◌, ◌∙◌, ◌⊎◌, ◌≤◌, ◌<◌, inl, inr, ℕ, zero, suc, List, [], ◌∷◌, ◌++◌, Bool, true, false, refl, sym, ap, subst, arith, cond, length, take, Some, Option, map, get_or, string_bytes, length-append}
+use Rattle.std.proofs.Common.{◌≡◌, ◌∙◌, ◌⊎◌, ◌≤◌, ◌<◌, inl, inr, ℕ, zero, suc, List, [], ◌∷◌, ◌++◌, Bool, true, false, refl, sym, ap, subst, arith, cond, length, take, Some, map, get_or, string_bytes, length-append}
 use Rattle.std.specs.Prelude.{◌||◌, slice_get}
 use Rattle.std.specs.Str.{bytes_eq}
 use Rattle.std.proofs.lemmas.List.{map-append, length-map}
-use Rattle.dl_io.specs.Outside.{raised, at_name}
 use Rattle.dl_io.specs.House.{HouseState}
 use Rattle.dl_journal.specs.Names.{output_name, output_names, is_among, AreDistinct}
 use Rattle.dl_journal.specs.declared.named.Named.{Named}
-use Rattle.dl_journal.specs.Streams.{names_of, Told, settled_pair, settled_all, IsFresh, AreFresh, IsOpen, AreOpen, begun}
+use Rattle.dl_journal.specs.Streams.{names_of, Told, settled_pair, settled_all, AreFresh, IsOpen, AreOpen, begun}
 use Rattle.dl_journal.proofs.Names.{same_name, outputs_eq, apart_at}
 
 -- the last streams are settled first

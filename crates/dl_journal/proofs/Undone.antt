@@ -1,5 +1,5 @@
 -- What is left of names that could not all be opened.
-use Rattle.std.proofs.Common.{◌≡◌, ◌∙◌, ◌⊎◌, ◌≤◌, ◌<◌, inl, inr, ℕ, zero, suc, List, Option, [], ◌∷◌, ◌++◌, Bool, true, false, refl, sym, ap, subst, arith, cond, length, take, drop, Some, append_assoc, take-append-drop, map, get_or, string_bytes}
+use Rattle.std.proofs.Common.{◌≡◌, ◌∙◌, ◌⊎◌, ◌≤◌, inl, inr, ℕ, zero, suc, List, Option, [], ◌∷◌, ◌++◌, Bool, true, false, refl, sym, ap, subst, cond, length, take, drop, Some, append_assoc, take-append-drop, map}
 use Rattle.std.specs.Prelude.{◌||◌, slice_get}
 use Rattle.std.specs.Str.{bytes_eq}
 use Rattle.std.specs.Option.{option_map}
@@ -8,12 +8,11 @@ use Rattle.dl_io.specs.Outside.{Rose}
 use Rattle.dl_io.specs.House.{HouseState}
 use Rattle.dl_io.specs.declared.house.OpenStop.{OpenStop}
 use Rattle.dl_io.specs.declared.house.OpenStop.TheVariants.{Failed, Memory}
-use Rattle.dl_journal.specs.Names.{output_name, output_names, is_among, AreDistinct, AreApart}
-use Rattle.dl_journal.specs.declared.named.Named.{Named}
-use Rattle.dl_journal.specs.Streams.{names_of, MayOpen, Told, opened_pair, opened_all, settled_all, IsFresh, AreFresh, AreOpen, begun, GrowsBy, HasStopCause, Undoes}
+use Rattle.dl_journal.specs.Names.{output_name, output_names, is_among}
+use Rattle.dl_journal.specs.Streams.{MayOpen, Told, opened_pair, opened_all, settled_all, IsFresh, AreFresh, AreOpen, begun, GrowsBy, HasStopCause, Undoes}
 use Rattle.dl_journal.proofs.Names.{same_name, or_left, among_outputs, among_at, among_take, distinct_at, apart_from, take_next}
 use Rattle.dl_journal.proofs.Opened.{Opens, opens, opened_open_in, opened_open_out, opened_holds, opened_last, fresh_last, fresh_open, fresh_within}
-use Rattle.dl_journal.proofs.Settled.{settled_open_in, settled_open_out, KeepsAsked, settled_asked, fresh_faults, fresh_left, fresh_wrote, name_at}
+use Rattle.dl_journal.proofs.Settled.{settled_open_in, settled_open_out, KeepsAsked, settled_asked, fresh_faults, fresh_left, fresh_wrote}
 
 map_take : {A B : Type 0} (f : A → B) (l : List A) (n : ℕ) → map f (take n l) ≡ take n (map f l)
 map_take f l zero = refl

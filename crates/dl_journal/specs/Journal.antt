@@ -1,5 +1,6 @@
 -- What is printed after sessions were served: the journal, and how each session ended.
-use Rattle.std.specs.Prelude.{ℕ, ◌+◌, List, [], ◌∷◌, ◌++◌, codes, decimal}
+use Rattle.std.specs.Prelude.{ℕ, List, [], ◌∷◌, ◌++◌, codes, decimal}
+use Rattle.std.specs.List.{enumerate_from, flat_map}
 use Rattle.dl_calls.specs.declared.entry.Entry.{Entry}
 use Rattle.dl_calls.specs.Text.{journal_text}
 use Rattle.dl_session.specs.declared.end.End.{End}
@@ -13,13 +14,12 @@ end_words Spent = codes "spent"
 
 -- `session K ` and how it ended, as a line
 abbrev pub end_line : ℕ → End → List ℕ
-end_line number end = codes "session " ++ (decimal number ++ (codes " " ++ (end_words end ++ 10 ∷ [])))
+end_line number end = (codes "session " ++ decimal number) ++ (codes " " ++ (end_words end ++ 10 ∷ []))
 
--- the same for each session, in order, from this number on
-abbrev pub ends_text : ℕ → List End → List ℕ
-ends_text number [] = []
-ends_text number (end ∷ more) = end_line number end ++ ends_text (number + 1) more
+-- the same for each session, in order, with its number from 0 on
+abbrev pub ends_text : List End → List ℕ
+ends_text ends = flat_map (λ (numbered : ℕ × End). end_line numbered.0 numbered.1) (enumerate_from 0 ends)
 
 -- a line for each entry of the history, and then one for each session
 abbrev pub served_text : List Entry → List End → List ℕ
-served_text history ends = journal_text history ++ ends_text 0 ends
+served_text history ends = journal_text history ++ ends_text ends

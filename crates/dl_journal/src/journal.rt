@@ -1,6 +1,6 @@
 //! The journal and the ends of sessions.
 
-ghost use Rattle.std.specs.Prelude.{◌≡◌, ◌++◌, ◌∷◌, [], codes, All};
+ghost use Rattle.std.specs.Prelude.{◌≡◌, ◌++◌, ◌∷◌, [], codes, decimal, All};
 ghost use Rattle.dl_io.specs.Outside.{HasCause};
 ghost use Rattle.dl_io.specs.Streams.{WritesAll};
 ghost use Rattle.dl_calls.specs.Spelled.{IsSpelled};
@@ -25,21 +25,37 @@ fn words_of(end: End) -> &'static [u8]
     }
 }
 
-fn write_end<S: Sink>(sink: &mut S, number: u64, end: End) -> Result<(), Failed>
-    ensures bytes { WritesAll (S.written sink.old) (S.written sink.new) result (end_line number end) }
+fn write_start<S: Sink>(sink: &mut S, number: u64) -> Result<(), Failed>
+    ensures bytes { WritesAll (S.written sink.old) (S.written sink.new) result (codes "session " ++ decimal number) }
     ensures cause { HasCause (S.faults sink.old) (S.faults sink.new) result }
     ensures name { S.name sink.new ≡ S.name sink.old }
 {
     write_all(sink, b"session ")?;
-    write_number(sink, number)?;
+    write_number(sink, number)
+}
+
+fn write_how<S: Sink>(sink: &mut S, end: End) -> Result<(), Failed>
+    ensures bytes { WritesAll (S.written sink.old) (S.written sink.new) result (codes " " ++ (end_words end ++ 10 ∷ [])) }
+    ensures cause { HasCause (S.faults sink.old) (S.faults sink.new) result }
+    ensures name { S.name sink.new ≡ S.name sink.old }
+{
     write_all(sink, b" ")?;
     write_all(sink, words_of(end))?;
     write_all(sink, b"\n")
 }
 
+fn write_end<S: Sink>(sink: &mut S, number: u64, end: End) -> Result<(), Failed>
+    ensures bytes { WritesAll (S.written sink.old) (S.written sink.new) result (end_line number end) }
+    ensures cause { HasCause (S.faults sink.old) (S.faults sink.new) result }
+    ensures name { S.name sink.new ≡ S.name sink.old }
+{
+    write_start(sink, number)?;
+    write_how(sink, end)
+}
+
 /// Appends a line for each end, in order.
 fn write_ends<S: Sink>(sink: &mut S, ends: &[End]) -> Result<(), Failed>
-    ensures bytes { WritesAll (S.written sink.old) (S.written sink.new) result (ends_text 0 ends.now) }
+    ensures bytes { WritesAll (S.written sink.old) (S.written sink.new) result (ends_text ends.now) }
     ensures cause { HasCause (S.faults sink.old) (S.faults sink.new) result }
     ensures name { S.name sink.new ≡ S.name sink.old }
 {
@@ -57,6 +73,7 @@ fn write_history<L: Ledger, S: Sink>(sink: &mut S, board: &Board<L>) -> Result<(
     ensures cause { HasCause (S.faults sink.old) (S.faults sink.new) result }
     ensures name { S.name sink.new ≡ S.name sink.old }
 {
+    let _entries = board.entries();
     let mut at = 0;
     while let Some(entry) = board.entry(at) {
         write_entry(sink, entry)?;
@@ -69,6 +86,7 @@ fn write_history<L: Ledger, S: Sink>(sink: &mut S, board: &Board<L>) -> Result<(
 pub fn history_is_spelled<L: Ledger>(board: &Board<L>)
     ensures { All IsSpelled board.now.history }
 {
+    let _entries = board.entries();
     let mut at = 0;
     while let Some(entry) = board.entry(at) {
         entry_is_spelled(entry);
