@@ -6,7 +6,8 @@ use Rattle.std.proofs.lemmas.List.{map-append, length-map}
 use Rattle.dl_io.specs.House.{HouseState}
 use Rattle.dl_journal.specs.Names.{output_name, output_names, is_among, AreDistinct}
 use Rattle.dl_journal.specs.declared.named.Named.{Named}
-use Rattle.dl_journal.specs.Streams.{names_of, Told, settled_pair, settled_all, AreFresh, IsOpen, AreOpen, begun}
+use Rattle.dl_sessions.specs.Served.{Told}
+use Rattle.dl_journal.specs.Streams.{names_of, settled_pair, settled_all, AreFresh, IsOpen, AreOpen, begun}
 use Rattle.dl_journal.proofs.Names.{same_name, outputs_eq, apart_at}
 
 -- the last streams are settled first

@@ -4,6 +4,7 @@ use Rattle.dl_io.specs.Outside.{Rose}
 use Rattle.dl_io.specs.House.{HouseState, opened_in, opened_out, settled_in, settled_out}
 use Rattle.dl_io.specs.declared.house.OpenStop.{OpenStop}
 use Rattle.dl_io.specs.declared.house.OpenStop.TheVariants.{Failed, Memory}
+use Rattle.dl_sessions.specs.Served.{Told}
 use Rattle.dl_journal.specs.Names.{output_name, output_names, is_among, AreDistinct, AreApart}
 use Rattle.dl_journal.specs.declared.named.Named.{Named}
 
@@ -17,30 +18,6 @@ pub record MayOpen (house : HouseState) (names : List (List ℕ)) : Type 0 where
   pub apart : AreApart names (output_names names)
   pub inputs : (name : List ℕ) → is_among name names ≡ true → house.open_in name ≡ false
   pub outputs : (name : List ℕ) → is_among name (output_names names) ≡ true → house.open_out name ≡ false
-
--- what a source and a sink tell
-pub record Told : Type 0 where
-  pub rest : Option (List ℕ)
-  pub read_faults : ℕ
-  pub source_name : List ℕ
-  pub written : Option (List ℕ)
-  pub handed : Option (List ℕ)
-  pub write_faults : ℕ
-  pub sink_name : List ℕ
-
--- the same by the functions of a kind of source and of a kind of sink
-module _ {I P : Type 0} (rest : I → Option (List ℕ)) (read_faults : I → ℕ) (source_name : I → List ℕ)
-    (written handed : P → Option (List ℕ)) (write_faults : P → ℕ) (sink_name : P → List ℕ) where
-  abbrev pub told : I → P → Told
-  told source sink = record {
-    rest = rest source;
-    read_faults = read_faults source;
-    source_name = source_name source;
-    written = written sink;
-    handed = handed sink;
-    write_faults = write_faults sink;
-    sink_name = sink_name sink;
-  }
 
 -- a name was opened for input, and its output for output
 abbrev pub opened_pair : HouseState → List ℕ → HouseState

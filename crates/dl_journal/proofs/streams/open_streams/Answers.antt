@@ -3,7 +3,8 @@ use Rattle.std.specs.Prelude.{slice_get}
 use Rattle.std.proofs.lemmas.List.{length-map, map-append}
 use Rattle.dl_io.specs.House.{HouseState}
 use Rattle.dl_journal.specs.Names.{output_name}
-use Rattle.dl_journal.specs.Streams.{names_of, Told, told, opened_pair, opened_all, IsFresh, AreFresh, Undoes}
+use Rattle.dl_sessions.specs.Served.{Told, told}
+use Rattle.dl_journal.specs.Streams.{names_of, opened_pair, opened_all, IsFresh, AreFresh, Undoes}
 use Rattle.dl_journal.proofs.Settled.{name_at}
 use Rattle.dl_journal.proofs.Undone.{next_shut, next_shut_out, next_opened, next_fresh, others_open, undone}
 use Rattle.dl_journal.proofs.streams.open_streams.Goals as goal

@@ -1,5 +1,6 @@
 use Rattle.std.proofs.Common.{◌≡◌, ◌≤◌, ◌-◌, length, map, take, vec_len, vec_capacity}
-use Rattle.dl_journal.specs.Streams.{names_of, told, opened_all, AreFresh}
+use Rattle.dl_sessions.specs.Served.{told}
+use Rattle.dl_journal.specs.Streams.{names_of, opened_all, AreFresh}
 use Rattle.dl_journal.proofs.streams.open_streams.Given as goal
 
 abbrev pub invariant-loop-house : goal.invariant-loop-house

@@ -1,7 +1,8 @@
 use Rattle.std.proofs.Common.{◌∙◌, refl, sym, subst, ap, arith, map, string_bytes}
 use Rattle.std.proofs.lemmas.List.{length-map}
 use Rattle.dl_io.specs.House.{HouseState}
-use Rattle.dl_journal.specs.Streams.{names_of, told, settled_all, AreOpen}
+use Rattle.dl_sessions.specs.Served.{told}
+use Rattle.dl_journal.specs.Streams.{names_of, settled_all, AreOpen}
 use Rattle.dl_journal.proofs.Settled.{open_within, turn_open, turn_others, turn_left}
 use Rattle.dl_journal.proofs.streams.settle_streams.Goals as goal
 

@@ -1,5 +1,6 @@
 use Rattle.std.proofs.Common.{◌≡◌, ◌≤◌, length, map, vec_len}
-use Rattle.dl_journal.specs.Streams.{names_of, told, settled_all, AreOpen}
+use Rattle.dl_sessions.specs.Served.{told}
+use Rattle.dl_journal.specs.Streams.{names_of, settled_all, AreOpen}
 use Rattle.dl_journal.proofs.streams.settle_streams.Given as goal
 
 abbrev pub invariant-loop-source : goal.invariant-loop-source
