@@ -5,3 +5,5 @@ pub mod Replies
 pub mod Judging
 pub mod Certifying
 pub mod Exact
+mod Halls
+mod Naming

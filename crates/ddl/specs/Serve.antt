@@ -118,7 +118,7 @@ pub record HasLacked (old new : HouseState) (ends : Status) : Type 0 where
 -- No session began: nothing was written to standard output, nor under any other name.
 pub record HasStopped (tells : Bool) (old new : HouseState) (theory : List ℕ) (ends : Status) : Type 0 where
   pub nothing : IsTrue tells → (name : List ℕ) → (new.wrote name ≡ old.wrote name) ⊎ (new.wrote name ≡ Some [])
-  pub ends : HasFailed old new theory ends ⊎ HasLacked old new ends
+  pub cause : HasFailed old new theory ends ⊎ HasLacked old new ends
 
 -- the two cases
 abbrev pub Serves : Bool → HouseState → HouseState → List ℕ → List (List ℕ) → List (List ℕ) → Status → Type 0

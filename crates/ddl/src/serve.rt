@@ -1,12 +1,25 @@
 //! Sessions from a theory, each under a name.
 
+ghost use Rattle.std.specs.Prelude.{◌≡◌, ◌≤◌, ◌<◌, [], Bool, map, length, string_bytes, vec_capacity, IfOk, IfErr, All};
+ghost use Rattle.dl_io.specs.House.{IsOpenedOut, standard};
+ghost use Rattle.dl_io.specs.Outside.{HasCause};
+ghost use Rattle.dl_io.specs.Streams.{WritesAll};
+ghost use Rattle.dl_calls.specs.Spelled.{IsSpelled};
+ghost use Rattle.dl_sessions.specs.Served.{told};
+ghost use Rattle.dl_journal.specs.Journal.{served_text};
+ghost use Rattle.dl_journal.specs.Names.{AreDistinct};
+ghost use Rattle.dl_journal.specs.Streams.{names_of, MayOpen, settled_all, AreOpen, begun, Undoes};
+ghost use Rattle.ddl.specs.Replies.{HandsOn};
+ghost use Rattle.ddl.specs.Serve.{ends_status};
+ghost use Rattle.ddl.specs.Serving.{PrintsTo, ServesHall, HasOpened, open_stop_of, Sessions};
+
 use crate::print::hand_on;
 use crate::sessions::{note_ends, settle_sessions, status_after};
 use crate::status::Status;
 use crate::whole::Stop;
 use dl_board::Board;
 use dl_io::{Failed, House, OpenStop, Sink};
-use dl_journal::{Named, named_all, open_streams, settle_streams, write_served};
+use dl_journal::{Named, history_is_spelled, named_all, open_streams, settle_streams, write_served};
 use dl_session::End;
 use dl_sessions::{Hall, Served};
 use dl_theory::Theory;
@@ -25,7 +38,13 @@ struct Streams<H: House> {
 }
 
 /// Opens the streams of all sessions, or none.
-fn open<H: House>(alloc: Global, names: &[String], house: &mut H) -> Result<Streams<H>, Stop> {
+fn open<H: House>(alloc: Global, names: &[String], house: &mut H) -> Result<Streams<H>, Stop>
+    requires { MayOpen (H.state house.old) (map string_bytes names.now) }
+    ensures opened { let t = told H.In.rest H.In.faults H.In.name H.Out.written H.Out.handed H.Out.faults H.Out.name in
+        IfOk result (λ s. HasOpened H.tells (H.state house.old) (H.state house.new) (map string_bytes names.now)
+        (names_of s.names.items) (map (λ p. t p.0 p.1) s.pairs.items) s.ends.items (vec_capacity s.ends)) }
+    ensures undone { IfErr result (λ stop. Undoes H.tells (H.state house.old) (H.state house.new) (map string_bytes names.now) (open_stop_of stop)) }
+{
     let names = named_all(alloc, names)?;
     let ends = Vec::with_capacity(alloc, names.len())?;
     let room = Vec::with_capacity(alloc, names.len())?;
@@ -41,11 +60,28 @@ fn print_served<L: Ledger, S: Sink>(
     sink: &mut S,
     board: &Board<L>,
     ends: &[End],
-) -> Result<(), Failed> {
+) -> Result<(), Failed>
+    ensures bytes { WritesAll (S.written sink.old) (S.written sink.new) result (served_text board.now.history ends.now) }
+    ensures handed { HandsOn (S.handed sink.new) (S.written sink.new) result }
+    ensures cause { HasCause (S.faults sink.old) (S.faults sink.new) result }
+    ensures name { S.name sink.new ≡ S.name sink.old }
+{
     let written = write_served(sink, board, ends);
     let handed = hand_on(sink);
     written?;
     handed
+}
+
+/// Prints the journal and the ends on a new sink. How the program ends then.
+fn conclude<L: Ledger, S: Sink>(sink: &mut S, board: &Board<L>, ends: &[End]) -> Status
+    ensures printed { (tells : Bool) → S.written sink.old ≡ begun tells → S.faults sink.old ≡ 0
+        → PrintsTo tells (S.handed sink.new) (S.faults sink.new) (served_text board.now.history ends.now) (ends_status ends.now) result }
+    ensures name { S.name sink.new ≡ S.name sink.old }
+{
+    match print_served(sink, board, ends) {
+        Ok(()) => status_after(ends),
+        Err(Failed) => Status::Fault,
+    }
 }
 
 /// Settles the streams of sessions that were served, and prints the journal and the ends.
@@ -55,17 +91,28 @@ fn close<L: Ledger + Send + Sync, H: House>(
     mut ends: Vec<End>,
     house: &mut H,
     sink: &mut H::Out,
-) -> Status {
+) -> Status
+    requires distinct { AreDistinct (names_of names.now) }
+    requires opened { let t = told H.In.rest H.In.faults H.In.name H.Out.written H.Out.handed H.Out.faults H.Out.name in
+        AreOpen (H.state house.old) (names_of names.now) (map (λ s. t s.source s.sink) served.sessions.items) }
+    requires empty { ends.items ≡ [] }
+    requires room { length served.sessions.items ≤ vec_capacity ends }
+    requires new { IsOpenedOut H.tells standard (H.Out.written sink.old) (H.Out.handed sink.old) (H.Out.name sink.old) (H.Out.faults sink.old) }
+    ensures house { let t = told H.In.rest H.In.faults H.In.name H.Out.written H.Out.handed H.Out.faults H.Out.name in
+        H.state house.new ≡ settled_all (H.state house.old) (names_of names.now) (map (λ s. t s.source s.sink) served.sessions.items) }
+    ensures printed { let ends = map (λ s. s.end) served.sessions.items in
+        PrintsTo H.tells (H.Out.handed sink.new) (H.Out.faults sink.new) (served_text served.board.history ends) (ends_status ends) result }
+    ensures spelled { All IsSpelled served.board.history }
+    ensures name { H.Out.name sink.new ≡ standard }
+{
     let Served { board, sessions } = served;
     note_ends::<H>(sessions.as_slice(), &mut ends);
     settle_sessions(house, names, sessions);
-    let printed = print_served(sink, &board, ends.as_slice());
+    history_is_spelled(&board);
+    let status = conclude(sink, &board, ends.as_slice());
     // The process ends after its journal: the system takes memory back at once, where a drop would go along every rule.
     mem::forget(board);
-    match printed {
-        Ok(()) => status_after(ends.as_slice()),
-        Err(Failed) => Status::Fault,
-    }
+    status
 }
 
 /// Serves the sessions of a hall. From the first of them on nothing wants memory.
@@ -76,7 +123,19 @@ fn serve_hall<L: Ledger + Send + Sync, R: Threads + Wait + Sync, H: House>(
     streams: Streams<H>,
     house: &mut H,
     sink: &mut H::Out,
-) -> Status {
+) -> Status
+    requires count { length streams.pairs.items ≡ hall.seats }
+    requires distinct { AreDistinct (names_of streams.names.items) }
+    requires opened { let t = told H.In.rest H.In.faults H.In.name H.Out.written H.Out.handed H.Out.faults H.Out.name in
+        AreOpen (H.state house.old) (names_of streams.names.items) (map (λ p. t p.0 p.1) streams.pairs.items) }
+    requires empty { streams.ends.items ≡ [] }
+    requires room { length streams.pairs.items ≤ vec_capacity streams.ends }
+    requires new { IsOpenedOut H.tells standard (H.Out.written sink.old) (H.Out.handed sink.old) (H.Out.name sink.old) (H.Out.faults sink.old) }
+    ensures served { let t = told H.In.rest H.In.faults H.In.name H.Out.written H.Out.handed H.Out.faults H.Out.name in
+        ServesHall H.tells (H.state house.old) (H.state house.new) hall.start (names_of streams.names.items)
+        (map (λ p. t p.0 p.1) streams.pairs.items) (H.Out.handed sink.new) (H.Out.faults sink.new) result }
+    ensures name { H.Out.name sink.new ≡ standard }
+{
     let Streams { names, pairs, ends } = streams;
     match hall.serve(rt, alloc, pairs) {
         Ok(served) => close(served, names.as_slice(), ends, house, sink),
@@ -97,9 +156,13 @@ fn serve_in<L: Ledger + Send + Sync, R: Threads + Wait + Sync, H: House>(
     sink: &mut H::Out,
     blank: Blank,
 ) -> Status
+    requires may { MayOpen (H.state house.old) (map string_bytes names.now) }
+    requires new { IsOpenedOut H.tells standard (H.Out.written sink.old) (H.Out.handed sink.old) (H.Out.name sink.old) (H.Out.faults sink.old) }
     requires name { blank.name ≡ L.name }
     requires parts { blank.parts ≡ L.parts }
     requires some { 0 < blank.parts }
+    ensures sessions { Sessions H.tells (H.state house.old) (H.state house.new) theory.now (map string_bytes names.now) (H.Out.handed sink.new) (H.Out.faults sink.new) result }
+    ensures name { H.Out.name sink.new ≡ standard }
 {
     let Ok(hall) = Hall::<L>::make(rt, alloc, theory, names.len(), blank) else {
         return Status::Memory;
@@ -126,6 +189,11 @@ pub(crate) fn serve<R: Threads + Wait + Sync, H: House>(
     names: &[String],
     house: &mut H,
     sink: &mut H::Out,
-) -> Status {
+) -> Status
+    requires may { MayOpen (H.state house.old) (map string_bytes names.now) }
+    requires new { IsOpenedOut H.tells standard (H.Out.written sink.old) (H.Out.handed sink.old) (H.Out.name sink.old) (H.Out.faults sink.old) }
+    ensures sessions { Sessions H.tells (H.state house.old) (H.state house.new) theory.now (map string_bytes names.now) (H.Out.handed sink.new) (H.Out.faults sink.new) result }
+    ensures name { H.Out.name sink.new ≡ standard }
+{
     serve_in::<Brand, _, _>(rt, alloc, theory, names, house, sink, Blank::new(1))
 }

@@ -11,6 +11,9 @@ use Rattle.dl_journal.specs.Names.{output_name, output_names, is_among, AreDisti
 pub same_name : (a b : List ℕ) → bytes_eq a b ≡ true → a ≡ b
 same_name a b e = (bytes_eq-Decides a b).0 e
 
+pub bytes_eq-sym : (a b : List ℕ) → bytes_eq a b ≡ bytes_eq b a
+bytes_eq-sym a b = one_answer {P = a ≡ b} (bytes_eq a b) (bytes_eq b a) (bytes_eq-Decides a b) ((λ e. sym (same_name b a e)), λ e. (bytes_eq-Decides b a).1 (sym e))
+
 pub outputs_eq : (a b : List ℕ) → bytes_eq (output_name a) (output_name b) ≡ bytes_eq a b
 outputs_eq a b =
     one_answer {P = a ≡ b} (bytes_eq (output_name a) (output_name b)) (bytes_eq a b)
@@ -69,11 +72,8 @@ pub distinct_at : (names : List (List ℕ)) (at : ℕ) (name : List ℕ) → Are
 distinct_at [] at name d e = absurd (cc)
 distinct_at (first ∷ more) zero name d e = refl
 distinct_at (first ∷ more) (suc at) name d e =
-    let other : bytes_eq first name ≡ false = by_sym first name (apart_at more at name first d.0 e) in
+    let other : bytes_eq first name ≡ false = bytes_eq-sym first name ∙ apart_at more at name first d.0 e in
     subst (λ (c : Bool). (c || is_among name (take at more)) ≡ false) (sym other) (distinct_at more at name d.1 e)
-  where
-    by_sym : (a b : List ℕ) → bytes_eq b a ≡ false → bytes_eq a b ≡ false
-    by_sym a b h = one_answer {P = a ≡ b} (bytes_eq a b) (bytes_eq b a) (bytes_eq-Decides a b) ((λ e. sym (same_name b a e)), λ e. (bytes_eq-Decides b a).1 (sym e)) ∙ h
 
 -- a name is no output
 pub apart_from : (names others : List (List ℕ)) (name : List ℕ) → AreApart names others → is_among name names ≡ true → is_among name others ≡ false

@@ -3,12 +3,15 @@ use Rattle.std.proofs.Common.{◌≡◌, ◌∙◌, ◌⊎◌, ◌≤◌, ◌<�
 use Rattle.std.specs.Prelude.{◌||◌, slice_get}
 use Rattle.std.specs.Str.{bytes_eq}
 use Rattle.std.proofs.lemmas.List.{map-append, length-map}
+use Rattle.dl_io.specs.Outside.{raised}
 use Rattle.dl_io.specs.House.{HouseState}
 use Rattle.dl_journal.specs.Names.{output_name, output_names, is_among, AreDistinct}
 use Rattle.dl_journal.specs.declared.named.Named.{Named}
 use Rattle.dl_sessions.specs.Served.{Told}
 use Rattle.dl_journal.specs.Streams.{names_of, settled_pair, settled_all, AreFresh, IsOpen, AreOpen, begun}
-use Rattle.dl_journal.proofs.Names.{same_name, outputs_eq, apart_at}
+use Rattle.std.specs.List.{AllZip}
+use Rattle.dl_io.proofs.Names.{bytes_eq-refl}
+use Rattle.dl_journal.proofs.Names.{same_name, bytes_eq-sym, outputs_eq, among_outputs, or_false, apart_at}
 
 -- the last streams are settled first
 pub settled_last : (house : HouseState) (names : List (List ℕ)) (ts : List Told) (t : Told) (name : List ℕ) → slice_get names (length ts) ≡ Some name
@@ -150,3 +153,74 @@ module _ {A : Type 0} (f : A → Told) (house : HouseState) (names : List Named)
 
     pub turn_left : settled_all (settled_pair house name (f x)) (names_of names) (map f new) ≡ settled_all house (names_of names) (map f old)
     turn_left = sym (ap (settled_all house (names_of names)) told ∙ settled_last house (names_of names) (map f new) (f x) name there)
+
+-- what the house has of a name whose streams were settled
+pub record IsSettled (old new : HouseState) (name : List ℕ) (t : Told) : Type 0 where
+  pub left : new.left name ≡ t.rest
+  pub wrote : new.wrote (output_name name) ≡ t.handed
+  pub share : new.share name ≡ raised (old.share name) t.read_faults
+  pub share_out : new.share_out (output_name name) ≡ raised (old.share_out (output_name name)) t.write_faults
+
+-- other names are as before
+pub settled_other : (house : HouseState) (names : List (List ℕ)) (ts : List Told) (other : List ℕ) → is_among other names ≡ false
+    → ((settled_all house names ts).left other ≡ house.left other) × ((settled_all house names ts).share other ≡ house.share other)
+settled_other house names [] other none = (refl, refl)
+settled_other house [] (t ∷ ts) other none = (refl, refl)
+settled_other house (first ∷ names) (t ∷ ts) other none =
+    let apart = or_false (bytes_eq first other) (is_among other names) none in
+    let before = settled_other house names ts other apart.1 in
+    let old = settled_all house names ts in (
+      ap (λ (b : Bool). cond b t.rest (old.left other)) apart.0 ∙ before.0,
+      ap (λ (b : Bool). cond b (raised (old.share first) t.read_faults) (old.share other)) apart.0 ∙ before.1,
+    )
+
+pub settled_other_out : (house : HouseState) (names : List (List ℕ)) (ts : List Told) (other : List ℕ) → is_among other (output_names names) ≡ false
+    → ((settled_all house names ts).wrote other ≡ house.wrote other) × ((settled_all house names ts).share_out other ≡ house.share_out other)
+settled_other_out house names [] other none = (refl, refl)
+settled_other_out house [] (t ∷ ts) other none = (refl, refl)
+settled_other_out house (first ∷ names) (t ∷ ts) other none =
+    let apart = or_false (bytes_eq (output_name first) other) (is_among other (output_names names)) none in
+    let before = settled_other_out house names ts other apart.1 in
+    let old = settled_all house names ts in (
+      ap (λ (b : Bool). cond b t.handed (old.wrote other)) apart.0 ∙ before.0,
+      ap (λ (b : Bool). cond b (raised (old.share_out (output_name first)) t.write_faults) (old.share_out other)) apart.0 ∙ before.1,
+    )
+
+-- a settling under another name changes nothing of these
+settled_more : (start house : HouseState) (name : List ℕ) (t : Told) (names : List (List ℕ)) (ts : List Told) → is_among name names ≡ false → AllZip (IsSettled start house) names ts
+    → AllZip (IsSettled start (settled_pair house name t)) names ts
+settled_more start house name t [] [] none all = tt
+settled_more start house name t [] (u ∷ us) none all = absurd all
+settled_more start house name t (first ∷ names) [] none all = absurd all
+settled_more start house name t (first ∷ names) (u ∷ us) none all =
+    let apart = or_false (bytes_eq first name) (is_among name names) none in
+    let other : bytes_eq name first ≡ false = bytes_eq-sym name first ∙ apart.0 in
+    let other_out : bytes_eq (output_name name) (output_name first) ≡ false = outputs_eq name first ∙ other in (
+      record {
+        left = ap (λ (b : Bool). cond b t.rest (house.left first)) other ∙ all.0.left;
+        wrote = ap (λ (b : Bool). cond b t.handed (house.wrote (output_name first))) other_out ∙ all.0.wrote;
+        share = ap (λ (b : Bool). cond b (raised (house.share name) t.read_faults) (house.share first)) other ∙ all.0.share;
+        share_out = ap (λ (b : Bool). cond b (raised (house.share_out (output_name name)) t.write_faults) (house.share_out (output_name first))) other_out ∙ all.0.share_out;
+      },
+      settled_more start house name t names us apart.1 all.1,
+    )
+
+pub are_settled : (house : HouseState) (names : List (List ℕ)) (ts : List Told) → AreDistinct names → length ts ≡ length names → AllZip (IsSettled house (settled_all house names ts)) names ts
+are_settled house [] [] d count = tt
+are_settled house [] (t ∷ ts) d count = absurd (omega (arith, count))
+are_settled house (first ∷ names) [] d count = absurd (omega (arith, count))
+are_settled house (first ∷ names) (t ∷ ts) d count =
+    let old = settled_all house names ts in
+    let same = bytes_eq-refl first in
+    let same_out = bytes_eq-refl (output_name first) in
+    let others = settled_other house names ts first d.0 in
+    let others_out = settled_other_out house names ts (output_name first) (among_outputs first names ∙ d.0) in (
+      record {
+        left = ap (λ (b : Bool). cond b t.rest (old.left first)) same;
+        wrote = ap (λ (b : Bool). cond b t.handed (old.wrote (output_name first))) same_out;
+        share = ap (λ (b : Bool). cond b (raised (old.share first) t.read_faults) (old.share first)) same ∙ ap (λ (n : ℕ). raised n t.read_faults) others.1;
+        share_out = ap (λ (b : Bool). cond b (raised (old.share_out (output_name first)) t.write_faults) (old.share_out (output_name first))) same_out
+            ∙ ap (λ (n : ℕ). raised n t.write_faults) others_out.1;
+      },
+      settled_more house old first t names ts d.0 (are_settled house names ts d.1 (omega (arith, count))),
+    )

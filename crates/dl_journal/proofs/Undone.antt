@@ -1,8 +1,9 @@
 -- What is left of names that could not all be opened.
-use Rattle.std.proofs.Common.{◌≡◌, ◌∙◌, ◌⊎◌, ◌≤◌, inl, inr, ℕ, zero, suc, List, Option, [], ◌∷◌, ◌++◌, Bool, true, false, refl, sym, ap, subst, cond, length, take, drop, Some, append_assoc, take-append-drop, map}
+use Rattle.std.proofs.Common.{◌≡◌, ◌∙◌, ◌⊎◌, ◌≤◌, inl, inr, ℕ, zero, suc, List, Option, [], ◌∷◌, ◌++◌, Bool, true, false, arith, refl, sym, ap, subst, cond, length, take, drop, Some, append_assoc, append-nil, take-append-drop, map}
 use Rattle.std.specs.Prelude.{◌||◌, slice_get}
 use Rattle.std.specs.Str.{bytes_eq}
 use Rattle.std.specs.Option.{option_map}
+use Rattle.std.proofs.lemmas.List.{take_all}
 use Rattle.std.proofs.lemmas.Option.{slice_get-map}
 use Rattle.dl_io.specs.Outside.{Rose}
 use Rattle.dl_io.specs.House.{HouseState}
@@ -15,10 +16,14 @@ use Rattle.dl_journal.proofs.Names.{same_name, or_left, among_outputs, among_at,
 use Rattle.dl_journal.proofs.Opened.{Opens, opens, opened_open_in, opened_open_out, opened_holds, opened_last, fresh_last, fresh_open, fresh_within}
 use Rattle.dl_journal.proofs.Settled.{settled_open_in, settled_open_out, KeepsAsked, settled_asked, fresh_faults, fresh_left, fresh_wrote}
 
-map_take : {A B : Type 0} (f : A → B) (l : List A) (n : ℕ) → map f (take n l) ≡ take n (map f l)
+pub map_take : {A B : Type 0} (f : A → B) (l : List A) (n : ℕ) → map f (take n l) ≡ take n (map f l)
 map_take f l zero = refl
 map_take f [] (suc n) = refl
 map_take f (x ∷ l) (suc n) = ap (λ t. f x ∷ t) (map_take f l n)
+
+shut_again : (b was is : Bool) → is ≡ (b || was) → (b ≡ true → was ≡ false) → cond b false is ≡ was
+shut_again true was is same shut = sym (shut refl)
+shut_again false was is same shut = same
 
 -- a list grew by the first names, and then perhaps by the next one
 grown : (start mids ends all : List (List ℕ)) (k : ℕ) (one : List ℕ) → mids ≡ start ++ take k all → take (suc k) all ≡ take k all ++ one ∷ [] → GrowsBy mids ends (one ∷ [])
@@ -109,10 +114,6 @@ module _ (tells : Bool) (old : HouseState) (names : List (List ℕ)) (may : MayO
     within : length ts ≤ length names
     within = fresh_within tells old names ts fresh
 
-    shut_again : (b was is : Bool) → is ≡ (b || was) → (b ≡ true → was ≡ false) → cond b false is ≡ was
-    shut_again true was is same shut = sym (shut refl)
-    shut_again false was is same shut = same
-
     undone_in : (other : List ℕ) → new.open_in other ≡ old.open_in other
     undone_in other =
         settled_open_in mid names ts other within
@@ -183,3 +184,46 @@ module _ (tells : Bool) (old : HouseState) (names : List (List ℕ)) (may : MayO
           (o.asked_out ∙ ap (λ (l : List (List ℕ)). old.asked_out ++ l) (map_take output_name names at)) next_out undoes.asked_out);
       cause = undone_cause stop undoes.cause;
     }
+
+-- All were opened, and settled as they were.
+module _ (tells : Bool) (old : HouseState) (names : List (List ℕ)) (may : MayOpen old names) (ts : List Told) (count : length ts ≡ length names) (fresh : AreFresh tells old names ts) where
+  abbrev full : HouseState
+  full = opened_all old names
+
+  abbrev again : HouseState
+  again = settled_all full names ts
+
+  whole : take (length ts) names ≡ names
+  whole = take_all (length ts) names (omega (arith, count))
+
+  all_in : (other : List ℕ) → again.open_in other ≡ old.open_in other
+  all_in other =
+      settled_open_in full names ts other (omega (arith, count))
+      ∙ ap (λ (l : List (List ℕ)). cond (is_among other l) false (full.open_in other)) whole
+      ∙ shut_again (is_among other names) (old.open_in other) (full.open_in other) (opened_open_in old names other) (may.inputs other)
+
+  all_out : (other : List ℕ) → again.open_out other ≡ old.open_out other
+  all_out other =
+      settled_open_out full names ts other (omega (arith, count))
+      ∙ ap (λ (l : List (List ℕ)). cond (is_among other (output_names l)) false (full.open_out other)) whole
+      ∙ shut_again (is_among other (output_names names)) (old.open_out other) (full.open_out other) (opened_open_out old names other) (may.outputs other)
+
+  pub undone_all : Undoes tells old again names Memory
+  undone_all =
+      let o = opens old names in
+      let k = settled_asked full names ts in
+      record {
+        open_in = all_in;
+        open_out = all_out;
+        left = λ other. elim (fresh_left tells old full names ts fresh other) as (λ _. (again.left other ≡ old.left other) ⊎ ((is_among other names ≡ true) × (again.left other ≡ old.holds other))) [
+          | inl kept ↦ inl (kept ∙ ap (λ (f : List ℕ → Option (List ℕ)). f other) o.left)
+          | inr taken ↦ inr taken
+        ];
+        wrote = λ other. elim (fresh_wrote tells old full names ts fresh other) as (λ _. (again.wrote other ≡ old.wrote other) ⊎ (again.wrote other ≡ begun tells)) [
+          | inl kept ↦ inl (kept ∙ ap (λ (f : List ℕ → Option (List ℕ)). f other) o.wrote)
+          | inr nothing ↦ inr nothing
+        ];
+        asked_in = (names, [], sym (append-nil names), k.asked_in ∙ o.asked_in);
+        asked_out = (output_names names, [], sym (append-nil (output_names names)), k.asked_out ∙ o.asked_out);
+        cause = fresh_faults tells old full names ts fresh ∙ o.faults;
+      }

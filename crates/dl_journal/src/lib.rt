@@ -10,6 +10,6 @@ mod named;
 mod streams;
 
 pub use dl_base::Memory;
-pub use journal::write_served;
+pub use journal::{history_is_spelled, write_served};
 pub use named::{Named, named_all};
 pub use streams::{open_streams, settle_pair, settle_streams};
