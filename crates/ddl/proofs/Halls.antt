@@ -92,6 +92,7 @@ module _ (tells : Bool) (old mid new : HouseState) (T start : TheoryLists) (name
   sessions_from (inl closes) = inl (record {
     streams = ts;
     fresh = opens.fresh;
+    count = opens.count;
     closes = subst (λ (h : HouseState). ClosesHall tells h new T names ts handed faults ends) opens.house
         (subst (λ (l : List (List ℕ)). ClosesHall tells mid new T l ts handed faults ends) opens.same
         (subst (λ (U : TheoryLists). ClosesHall tells mid new U opened ts handed faults ends) same closes));

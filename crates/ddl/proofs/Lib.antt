@@ -7,3 +7,6 @@ pub mod Certifying
 pub mod Exact
 mod Halls
 mod Naming
+mod Accounts
+mod Serves
+mod Answering

@@ -6,5 +6,5 @@ pub mod Checks
 pub mod Replies
 pub mod Certified
 pub mod Serve
-pub mod Serving
 pub mod Run
+pub mod Serving

@@ -68,13 +68,17 @@ files_for (Some (Serve theory names)) = theory ∷ names
 abbrev pub files_of : List (List ℕ) → List (List ℕ)
 files_of words = files_for (form words)
 
+-- where the replies of sessions go
+abbrev pub session_outputs : Option Form → List (List ℕ)
+session_outputs None = []
+session_outputs (Some (Conclude f file)) = []
+session_outputs (Some (Print file)) = []
+session_outputs (Some (Check theory cert)) = []
+session_outputs (Some (Serve theory names)) = output_names names
+
 -- what is opened for output, in order
 abbrev pub outputs_for : Option Form → List (List ℕ)
-outputs_for None = standard ∷ []
-outputs_for (Some (Conclude f file)) = standard ∷ []
-outputs_for (Some (Print file)) = standard ∷ []
-outputs_for (Some (Check theory cert)) = standard ∷ []
-outputs_for (Some (Serve theory names)) = standard ∷ output_names names
+outputs_for asked = standard ∷ session_outputs asked
 
 abbrev pub outputs_of : List (List ℕ) → List (List ℕ)
 outputs_of words = outputs_for (form words)

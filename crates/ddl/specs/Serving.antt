@@ -1,5 +1,5 @@
 -- How the code comes to sessions that were served, or did not begin. Only the code needs these.
-use Rattle.std.specs.Prelude.{◌≡◌, ◌⊎◌, ℕ, ◌≤◌, Bool, List, [], length, map, All, Option, Some, IsTrue}
+use Rattle.std.specs.Prelude.{◌≡◌, ◌⊎◌, ℕ, ◌≤◌, Bool, List, [], length, map, All, Option, Some, IsTrue, Result, Ok, Err}
 use Rattle.std.specs.Io.KnownBytes.{append_known}
 use Rattle.dl_io.specs.Outside.{Rose}
 use Rattle.dl_io.specs.Streams.{IsFront}
@@ -12,12 +12,16 @@ use Rattle.dl_calls.specs.Spelled.{IsSpelled}
 use Rattle.dl_session.specs.declared.end.End.{End}
 use Rattle.dl_sessions.specs.Served.{Told, AreServed}
 use Rattle.dl_journal.specs.Journal.{served_text}
-use Rattle.dl_journal.specs.Streams.{opened_all, settled_all, AreFresh, begun, Undoes}
+use Rattle.dl_journal.specs.Streams.{opened_all, settled_all, AreFresh, begun, GrowsBy, Undoes}
 use Rattle.ddl.specs.declared.status.Status.{Status}
 use Rattle.ddl.specs.declared.status.Status.TheVariants as status
 use Rattle.ddl.specs.declared.whole.Stop.{Stop}
 use Rattle.ddl.specs.declared.whole.Stop.TheVariants as stop
+use Rattle.ddl.specs.declared.reply.Reply.{Reply}
+use Rattle.ddl.specs.Words.{Form}
+use Rattle.ddl.specs.Replies.{reply_status, reply_text}
 use Rattle.ddl.specs.Serve.{ends_status}
+use Rattle.ddl.specs.Run.{ReadsAtMost, most_for, files_for, session_outputs}
 
 -- what the streams of a session tell in the end, and how it ended
 abbrev pub Closed : Type 0
@@ -89,7 +93,34 @@ pub record NoSessions (tells : Bool) (old new : HouseState) (names : List (List 
 pub record HasSessions (tells : Bool) (old new : HouseState) (T : TheoryLists) (names : List (List ℕ)) (handed : Option (List ℕ)) (faults : ℕ) (ends : Status) : Type 0 where
   pub streams : List Told
   pub fresh : AreFresh tells old names streams
+  pub count : length streams ≡ length names
   pub closes : ClosesHall tells (opened_all old names) new T names streams handed faults ends
 
 abbrev pub Sessions : Bool → HouseState → HouseState → TheoryLists → List (List ℕ) → Option (List ℕ) → ℕ → Status → Type 0
 Sessions tells old new T names handed faults ends = HasSessions tells old new T names handed faults ends ⊎ NoSessions tells old new names handed faults ends
+
+-- no count of an opening or of a stream rose
+pub record KeepsCounts (old new : HouseState) : Type 0 where
+  pub own : new.own ≡ old.own
+  pub share : new.share ≡ old.share
+  pub share_out : new.share_out ≡ old.share_out
+
+-- what a read of a whole file did to them
+abbrev pub CountsBy : {T : Type 0} → HouseState → HouseState → List ℕ → Result T Stop → Type 0
+CountsBy old new name (Ok x) = KeepsCounts old new
+CountsBy old new name (Err stop.Fault) = Rose old.own new.own ⊎ Rose (old.share name) (new.share name)
+CountsBy old new name (Err stop.Memory) = Unit {0}
+
+-- The files of the words were opened, at most so much of each was read, and all was settled.
+pub record Works (old new : HouseState) (asked : Option Form) : Type 0 where
+  pub within : ReadsAtMost (most_for asked) old new
+  pub open_in : (name : List ℕ) → new.open_in name ≡ old.open_in name
+  pub open_out : (name : List ℕ) → new.open_out name ≡ old.open_out name
+  pub asked_in : GrowsBy old.asked_in new.asked_in (files_for asked)
+  pub asked_out : GrowsBy old.asked_out new.asked_out (session_outputs asked)
+
+-- what came of a reply that was to be printed on a new sink
+abbrev pub SaysTo : Bool → Option (List ℕ) → ℕ → Result Reply Stop → Status → Type 0
+SaysTo tells handed faults (Ok reply) ends = PrintsTo tells handed faults (reply_text reply) (reply_status reply) ends
+SaysTo tells handed faults (Err stop.Fault) ends = (faults ≡ 0) × (handed ≡ begun tells) × (ends ≡ status.Fault)
+SaysTo tells handed faults (Err stop.Memory) ends = (faults ≡ 0) × (handed ≡ begun tells) × (ends ≡ status.Memory)

@@ -1,5 +1,5 @@
 -- The words of the command line.
-use Rattle.std.specs.Prelude.{ℕ, List, [], ◌∷◌, ◌++◌, map, Bool, true, false, not, ◌&&◌, Option, None, Some, if◌then◌else◌, codes, string_bytes}
+use Rattle.std.specs.Prelude.{◌≡◌, ℕ, List, [], ◌∷◌, ◌++◌, map, Bool, true, false, not, ◌&&◌, Option, None, Some, if◌then◌else◌, codes, string_bytes}
 use Rattle.std.specs.Option.{option_map}
 use Rattle.std.specs.Str.{bytes_eq}
 use Rattle.dl_lit.specs.declared.literal.Family.{Family}
@@ -63,6 +63,11 @@ are_apart (word ∷ more) others = not (is_among word others) && are_apart more 
 -- the theory and the names of sessions: none is empty, none comes twice, and none is the output of a session
 abbrev pub may_serve : List ℕ → List (List ℕ) → Bool
 may_serve theory names = are_names (theory ∷ names) && are_apart (theory ∷ names) (output_names names)
+
+-- sessions are asked for only by such words
+abbrev pub IsServable : Asked → Type 0
+IsServable (asked.Command command) = Unit {0}
+IsServable (asked.Serve theory names) = may_serve (string_bytes theory.now) (map string_bytes names.now) ≡ true
 
 -- for now of one session
 abbrev pub serve_form : List ℕ → List ℕ → Option Form

@@ -1,15 +1,18 @@
 //! The top call: from the words of the command line to standard output and a status.
 
-ghost use Rattle.std.specs.Prelude.{◌≡◌, ◌⊎◌, ◌∷◌, ◌++◌, [], List, ℕ, Option, false, map, string_bytes, IsTrue, IfOk, OnOk, Some};
+ghost use Rattle.std.specs.Prelude.{◌≡◌, ◌⊎◌, ◌∷◌, ◌++◌, [], Bool, List, ℕ, Option, true, false, map, string_bytes, IsTrue, IfOk, OnOk, Some};
+ghost use Rattle.std.specs.Str.{bytes_eq};
 ghost use Rattle.dl_io.specs.House.{IsShut, IsOpenedOut, settled_out, standard};
 ghost use Rattle.dl_io.specs.Outside.{HasCause};
 ghost use Rattle.dl_io.specs.Streams.{WritesAll};
+ghost use Rattle.dl_journal.specs.Streams.{begun};
 ghost use Rattle.ddl.specs.Replies.{reply_status, reply_text, HandsOn};
-ghost use Rattle.ddl.specs.Run.{Runs, Answers, ReadsOnly, Replies, MayJudge, Shows, outcome_of, files_for, files_of};
+ghost use Rattle.ddl.specs.Run.{Runs, AnswersBehind, ReadsOnly, Replies, MayJudge, Shows, outcome_of, files_for};
 ghost use Rattle.ddl.specs.Certified.{SaysOfCertificate};
+ghost use Rattle.ddl.specs.Serving.{Works, SaysTo};
 ghost use Rattle.ddl.specs.Theories.{limit, HoldsTheory, HoldsNumbered};
 ghost use Rattle.ddl.specs.Whole.{IsWhole, HasFault};
-ghost use Rattle.ddl.specs.Words.{form, form_of, Conclude, Print, Check};
+ghost use Rattle.ddl.specs.Words.{form, form_of, may_serve, Conclude, Print, Check, Serve};
 
 use crate::check::check;
 use crate::conclusion::conclusions;
@@ -151,6 +154,9 @@ fn say<S: Sink>(alloc: Global, sink: &mut S, reply: Reply) -> Result<(), Failed>
 
 // Prints the reply, unless there is none for want of memory or a fault.
 fn answer<S: Sink>(alloc: Global, sink: &mut S, reply: Result<Reply, Stop>) -> Status
+    ensures said { (tells : Bool) → S.written sink.old ≡ begun tells → S.handed sink.old ≡ begun tells → S.faults sink.old ≡ 0
+        → SaysTo tells (S.handed sink.new) (S.faults sink.new) reply result }
+    ensures name { S.name sink.new ≡ S.name sink.old }
 {
     match reply {
         Ok(reply) => {
@@ -174,9 +180,22 @@ fn serve_file<R: Threads + Wait + Sync, H: House>(
     house: &mut H,
     sink: &mut H::Out,
 ) -> Status
+    requires shut { (name : List ℕ) → (H.state house.old).open_in name ≡ false }
+    requires only { (name : List ℕ) → bytes_eq standard name ≡ false → (H.state house.old).open_out name ≡ false }
+    requires may { may_serve (string_bytes file.now) (map string_bytes names.now) ≡ true }
+    requires opened { IsOpenedOut H.tells standard (H.Out.written sink.old) (H.Out.handed sink.old) (H.Out.name sink.old) (H.Out.faults sink.old) }
+    ensures house { Works (H.state house.old) (H.state house.new) (Some (Serve (string_bytes file.now) (map string_bytes names.now))) }
+    ensures name { H.Out.name sink.new ≡ standard }
+    ensures answer { (words : List (List ℕ)) → form words ≡ Some (Serve (string_bytes file.now) (map string_bytes names.now))
+        → AnswersBehind [] H.tells (H.state house.old)
+        (settled_out (H.state house.new) standard (H.Out.handed sink.new) (H.Out.faults sink.new)) words result }
 {
     match load(alloc, house, file, Theory::make(alloc)) {
-        Ok(Loaded::Theory(theory)) => serve(rt, alloc, &theory, names, house, sink),
+        Ok(Loaded::Theory(theory)) => {
+            let status = serve(rt, alloc, &theory, names, house, sink);
+            mem::forget(theory);
+            status
+        }
         Ok(Loaded::Refused(refusal)) => answer(alloc, sink, Ok(Reply::Refused(refusal))),
         Err(Stop::Fault) => Status::Fault,
         Err(Stop::Memory) => Status::Memory,
@@ -191,6 +210,14 @@ fn respond<R: Threads + Wait + Sync, H: House>(
     house: &mut H,
     sink: &mut H::Out,
 ) -> Status
+    requires shut { (name : List ℕ) → (H.state house.old).open_in name ≡ false }
+    requires only { (name : List ℕ) → bytes_eq standard name ≡ false → (H.state house.old).open_out name ≡ false }
+    requires opened { IsOpenedOut H.tells standard (H.Out.written sink.old) (H.Out.handed sink.old) (H.Out.name sink.old) (H.Out.faults sink.old) }
+    ensures house { Works (H.state house.old) (H.state house.new) (form (map string_bytes words.now.items)) }
+    ensures name { H.Out.name sink.new ≡ standard }
+    ensures answer { AnswersBehind [] H.tells (H.state house.old)
+        (settled_out (H.state house.new) standard (H.Out.handed sink.new) (H.Out.faults sink.new))
+        (map string_bytes words.now.items) result }
 {
     match asked_of(words) {
         Some(Asked::Serve(file, names)) => serve_file(rt, alloc, file, names, house, sink),

@@ -4,6 +4,7 @@ ghost use Rattle.std.specs.Prelude.{◌≡◌, ◌≤◌, ◌∷◌, ◌++◌, [
 ghost use Rattle.dl_theory.specs.Lists.{no_lists};
 ghost use Rattle.ddl.specs.Theories.{limit, IsLoaded, HoldsLoaded};
 ghost use Rattle.ddl.specs.Run.{ReadsOnly};
+ghost use Rattle.ddl.specs.Serving.{CountsBy};
 ghost use Rattle.ddl.specs.Whole.{IsWhole, HasFault};
 
 use crate::refusal::Refusal;
@@ -60,6 +61,7 @@ pub fn read<H: House>(alloc: Global, house: &mut H, name: &String) -> Result<Opt
     ensures whole { IfOk result (λ whole. IsWhole limit ((H.state house.old).holds (string_bytes name.now)) whole) }
     ensures told { IsTrue H.tells → IfOk result (λ whole. IsSome ((H.state house.old).holds (string_bytes name.now))) }
     ensures asked { OnOk result ((H.state house.new).asked_in ≡ (H.state house.old).asked_in ++ string_bytes name.now ∷ []) }
+    ensures counts { CountsBy (H.state house.old) (H.state house.new) (string_bytes name.now) result }
 {
     let mut source = match house.input(name) {
         Ok(source) => source,
@@ -84,6 +86,7 @@ pub fn load<H: House, T: Loading>(
     ensures cause { HasFault (H.state house.old).faults (H.state house.new).faults result }
     ensures loaded { IsTrue H.tells → IfOk result (HoldsLoaded T.lists ((H.state house.old).holds (string_bytes name.now))) }
     ensures asked { OnOk result ((H.state house.new).asked_in ≡ (H.state house.old).asked_in ++ string_bytes name.now ∷ []) }
+    ensures counts { CountsBy (H.state house.old) (H.state house.new) (string_bytes name.now) result }
 {
     let whole = read(alloc, house, name)?;
     let loaded = load_whole(alloc, empty, &whole)?;

@@ -1,10 +1,10 @@
 //! The words of the command line.
 
-ghost use Rattle.std.specs.Prelude.{◌≡◌, ◌∷◌, [], false, codes, map, string_bytes};
+ghost use Rattle.std.specs.Prelude.{◌≡◌, ◌∷◌, [], false, codes, map, string_bytes, IfSome};
 ghost use Rattle.std.specs.Str.{bytes_eq};
 ghost use Rattle.dl_journal.specs.Names.{output_name};
 ghost use Rattle.std.specs.Option.{option_map};
-ghost use Rattle.ddl.specs.Words.{form, form_of, asked_form, form_of_three, conclude_form, check_form, serve_form, family_of};
+ghost use Rattle.ddl.specs.Words.{form, form_of, asked_form, IsServable, form_of_three, conclude_form, check_form, serve_form, family_of};
 
 use dl_lit::Family;
 
@@ -76,7 +76,8 @@ fn is_output(word: &str, name: &str) -> bool
 /// Sessions from the theory in a file. These are the names of one, for now.
 fn serve<'a>(theory: &'a String, name: &'a String, names: &'a [String]) -> Option<Asked<'a>>
     requires { map string_bytes names.now ≡ string_bytes name.now ∷ [] }
-    ensures { option_map asked_form result ≡ serve_form (string_bytes theory.now) (string_bytes name.now) }
+    ensures form { option_map asked_form result ≡ serve_form (string_bytes theory.now) (string_bytes name.now) }
+    ensures may { IfSome result IsServable }
 {
     if theory.is_empty() || name.is_empty() {
         return None;
@@ -89,7 +90,8 @@ fn serve<'a>(theory: &'a String, name: &'a String, names: &'a [String]) -> Optio
 
 fn command_of_three<'a>(command: &str, second: &'a String, third: &'a String) -> Option<Asked<'a>>
     requires { bytes_eq command.now (codes "serve") ≡ false }
-    ensures { option_map asked_form result ≡ form_of_three command.now (string_bytes second.now) (string_bytes third.now) }
+    ensures form { option_map asked_form result ≡ form_of_three command.now (string_bytes second.now) (string_bytes third.now) }
+    ensures may { IfSome result IsServable }
 {
     let asked = if command == "conclude" {
         conclude(second.as_str(), third)?
@@ -103,7 +105,8 @@ fn command_of_three<'a>(command: &str, second: &'a String, third: &'a String) ->
 
 /// What these words ask for, if they have a form.
 pub fn asked_of(words: &Vec<String>) -> Option<Asked<'_>>
-    ensures { option_map asked_form result ≡ form (map string_bytes words.now.items) }
+    ensures form { option_map asked_form result ≡ form (map string_bytes words.now.items) }
+    ensures may { IfSome result IsServable }
 {
     match words.as_slice() {
         [command, file] if command.as_str() == "print" && !file.is_empty() => {

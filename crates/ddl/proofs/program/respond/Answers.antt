@@ -1,33 +1,42 @@
-use Rattle.std.proofs.Common.{◌≡◌, ◌∙◌, ℕ, Bool, List, Option, Some, None, [], inl, inr, refl, ap, true, sym, subst, arith, if◌then◌else◌}
-use Rattle.std.specs.Io.KnownBytes.{append_known}
-use Rattle.dl_io.specs.Streams.{IsKnownFront}
-use Rattle.dl_io.specs.Outside.{Rose, raised, at_name}
-use Rattle.dl_io.specs.House.{standard}
-use Rattle.ddl.specs.Run.{outcome_of}
-use Rattle.ddl.proofs.Handing.{handed_front}
+use Rattle.std.proofs.Common.{◌≡◌, ℕ, List, [], Option, Some, None, refl, sym, subst, map, string_bytes, append-nil}
+use Rattle.ddl.specs.declared.words.Asked.{Asked}
+use Rattle.ddl.specs.declared.reply.Reply.TheVariants.{Usage}
+use Rattle.ddl.specs.Run.{usage}
+use Rattle.ddl.specs.Serving.{Works}
+use Rattle.ddl.specs.Words.{Form, form, form_of, asked_form}
+use Rattle.ddl.proofs.Answering.{command_unserved, command_works, printed_answers, result_answers}
 use Rattle.ddl.proofs.program.respond.Goals as goal
 
--- a count that rose from nothing raises another
-rose_by : (before now count : ℕ) → now ≡ before → Rose 0 count → Rose before (raised now count)
-rose_by before now count same rose = subst (λ n. Rose before (raised n count)) (sym same) (omega (arith, rose))
+pub returns-in-Some-Serve-clause-answer : goal.returns-in-Some-Serve-clause-answer
+returns-in-Some-Serve-clause-answer g c =
+    let words = map string_bytes c.args.words.now.items in
+    let is = subst (λ (a : Asked). Some (asked_form a) ≡ form words) c.in-Some-Serve.field-0-is c.in-Some-Serve.ensures.form in
+    c.serve_file.ensures.answer words (sym is)
 
--- what a sink that tells its bytes begins with
-abbrev told : Bool → Option (List ℕ)
-told b = if b then Some [] else None
+pub returns-in-Some-Command-clause-house : goal.returns-in-Some-Command-clause-house
+returns-in-Some-Command-clause-house g c =
+    let words = map string_bytes c.args.words.now.items in
+    let is = subst (λ (a : Asked). Some (asked_form a) ≡ form words) c.in-Some-Command.field-0-is c.in-Some-Command.ensures.form in
+    let state = g.H.House.state in
+    subst (λ (a : Option Form). Works (state c.args.house.now) (state c.reply_of-reply.new.house) a) is
+    (command_works (state c.args.house.now) (state c.reply_of-reply.new.house) c.in-Some-Command.command c.reply_of-reply.ensures.house)
 
-pub returns-in-Err-clause-answer : goal.returns-in-Err-clause-answer
-returns-in-Err-clause-answer g c =
-    let cut = c.in-Err.ensures.bytes in
-    let handed = g.H.Out.Sink.handed c.say.new.sink in
-    -- what `written` is where bytes are told
-    let begun = λ (tells : g.H.House.tells ≡ true). cut.2 ∙ ap (λ (w : Option (List ℕ)). append_known w cut.0) (c.requires.opened.nothing ∙ ap (λ (b : Bool). told b) tells) in
-    let front = λ (tells : g.H.House.tells ≡ true). handed_front handed cut.0 _ (subst (λ (w : Option (List ℕ)). IsKnownFront handed w) (begun tells) c.in-Err.ensures.handed) cut.1 in
-    inr (inl (record {
-      fault = refl;
-      rose = rose_by _ _ _ c.in-Ok.ensures.cause (subst (λ n. Rose n (g.H.Out.Sink.faults c.say.new.sink)) c.requires.opened.no_faults c.in-Err.ensures.cause);
-      front = λ tells. inr (
-        (front tells).0,
-        inr (c.in-Ok.ensures.reply.names, outcome_of c.in-Ok.reply, c.in-Ok.ensures.reply.shown tells, (front tells).2),
-        λ i. at_name (c.in-Ok.ensures.house.wrote i) standard ((front tells).1 i),
-      );
-    }))
+pub returns-in-Some-Command-clause-answer : goal.returns-in-Some-Command-clause-answer
+returns-in-Some-Command-clause-answer g c =
+    let words = map string_bytes c.args.words.now.items in
+    let is = subst (λ (a : Asked). Some (asked_form a) ≡ form words) c.in-Some-Command.field-0-is c.in-Some-Command.ensures.form in
+    let state = g.H.House.state in
+    let old = state c.args.house.now in
+    let sink = c.answer.new.sink in
+    result_answers g.H.House.tells old (state c.reply_of-reply.new.house) [] words (Some (form_of c.in-Some-Command.command)) is (g.H.Out.Sink.handed sink) (g.H.Out.Sink.faults sink) c.answer.result
+    c.reply_of-reply.ensures.house.wrote c.reply_of-reply.result c.reply_of-reply.ensures.reply c.reply_of-reply.ensures.cause (command_unserved g.H.House.tells old.holds c.in-Some-Command.command)
+    (c.answer.ensures.said g.H.House.tells c.requires.opened.nothing c.requires.opened.none_handed c.requires.opened.no_faults)
+
+pub returns-in-None-clause-answer : goal.returns-in-None-clause-answer
+returns-in-None-clause-answer g c =
+    let words = map string_bytes c.args.words.now.items in
+    let old = g.H.House.state c.args.house.now in
+    let sink = c.answer-in-None.new.sink in
+    printed_answers g.H.House.tells old old [] words None c.in-None.ensures.form (g.H.Out.Sink.handed sink) (g.H.Out.Sink.faults sink) c.answer-in-None.result refl Usage
+    (record { names = []; asked_in = sym (append-nil old.asked_in); may_end = (refl, refl); shown = λ told. usage }) refl tt
+    (c.answer-in-None.ensures.said g.H.House.tells c.requires.opened.nothing c.requires.opened.none_handed c.requires.opened.no_faults)
