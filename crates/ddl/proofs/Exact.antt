@@ -1,8 +1,11 @@
 -- A file loads or is refused, and not both; so the statuses exclude one another.
-use Rattle.std.proofs.Common.{◌≡◌, ◌∙◌, ◌⊎◌, ◌<◌, ◌≤◌, inl, inr, ℕ, true, List, length, Option, Some, refl, sym, subst, arith}
+use Rattle.std.proofs.Common.{◌≡◌, ◌∙◌, ◌⊎◌, ◌<◌, ◌≤◌, inl, inr, ℕ, Bool, true, List, [], ◌∷◌, ◌++◌, length, Option, None, Some, refl, sym, subst, arith}
 use Rattle.dl_io.specs.Outside.{Rose}
-use Rattle.dl_io.specs.House.{HouseState}
+use Rattle.dl_io.specs.House.{HouseState, standard}
+use Rattle.dl_journal.specs.Names.{output_names}
 use Rattle.dl_theory.specs.Lists.{TheoryLists}
+use Rattle.dl_session.specs.declared.end.End.{End}
+use Rattle.dl_session.specs.declared.end.End.TheVariants.{Done, ReadFault, WriteFault, Spent}
 use Rattle.dl_read.specs.declared.file.ReadStop.TheVariants as stop
 use Rattle.dl_read.proofs.Unique.{loads_one, loads_or_stops}
 use Rattle.ddl.specs.declared.refusal.Refusal.{Refusal}
@@ -16,7 +19,8 @@ use Rattle.ddl.specs.declared.reply.Reply.TheVariants as reply
 use Rattle.ddl.specs.Theories.{limit, IsTheoryFile, IsRefusal}
 use Rattle.ddl.specs.Checks.{IsOnlyChecked}
 use Rattle.ddl.specs.Replies.{reply_status}
-use Rattle.ddl.specs.Run.{Outcome, Shows, usage, refused, concluded, printed, too_large, checked, Answers, AsksAbout}
+use Rattle.ddl.specs.Run.{Outcome, Shows, usage, refused, concluded, printed, too_large, checked, Answers, MayEnd, ServesNames, AsksAbout}
+use Rattle.ddl.specs.Serve.{ends_status, ends_of, Prints, HasFailed, HasLacked, Serves}
 
 pub not_both : (bytes : List ℕ) (T : TheoryLists) (x : Refusal) → IsTheoryFile bytes T → IsRefusal bytes x → ⊥
 not_both bytes T Size t h = absurd (omega (arith, t.0, h))
@@ -48,6 +52,19 @@ module _ (holds : List ℕ → Option (List ℕ)) (asked : words.Form) (bytes : 
     where
       not_alone : (f c : List ℕ) → Some (words.Check f c) ≡ Some asked → ⊥
       not_alone f c i = let same : words.Check f c ≡ asked = cc in subst (λ (a : words.Form). words.IsAlone a) (sym same) alone
+
+  -- an answer that is done has a theory
+  pub shown_loads : (form : Option words.Form) (names : List (List ℕ)) (outcome : Outcome) → form ≡ Some asked → Shows holds form names outcome → outcome.status ≡ status.Done
+      → (T : TheoryLists) × IsTheoryFile bytes T
+  shown_loads form names outcome e s =
+      elim s as (λ f n o _. f ≡ Some asked → o.status ≡ status.Done → (T : TheoryLists) × IsTheoryFile bytes T) [
+        | usage ↦ λ i d. absurd (cc)
+        | refused a b x h r ↦ λ i d. absurd (cc)
+        | concluded f file b U cs h u c ↦ λ i d. (U, subst (λ (y : List ℕ). IsTheoryFile y U) (sym (bytes_of (words.Conclude f file) b i h)) u)
+        | printed file b U h u ↦ λ i d. (U, subst (λ (y : List ℕ). IsTheoryFile y U) (sym (bytes_of (words.Print file) b i h)) u)
+        | too_large f c b m U h u k l ↦ λ i d. (U, subst (λ (y : List ℕ). IsTheoryFile y U) (sym (bytes_of (words.Check f c) b i h)) u)
+        | checked f c b m U x h u k l j ↦ λ i d. (U, subst (λ (y : List ℕ). IsTheoryFile y U) (sym (bytes_of (words.Check f c) b i h)) u)
+      ] e
 
   -- where the file of the theory is refused, so are the words
   pub refused_refused : (x : Refusal) → IsRefusal bytes x → (form : Option words.Form) (names : List (List ℕ)) (outcome : Outcome) → form ≡ Some asked → Shows holds form names outcome
@@ -100,10 +117,90 @@ module _ (old : HouseState) (given : List (List ℕ)) (T : TheoryLists) (certifi
             (subst (λ (V : TheoryLists). IsOnlyChecked V m x) (one_theory b U (same_theory f c b i h) u) j))
       ] asks.asks
 
+-- words with this status have no form
+pub usage_of : (asked : Option words.Form) (names : List (List ℕ)) → MayEnd asked names status.Usage → asked ≡ None
+usage_of None names may = refl
+usage_of (Some (words.Conclude f file)) names (same, inl e) = absurd (cc)
+usage_of (Some (words.Conclude f file)) names (same, inr e) = absurd (cc)
+usage_of (Some (words.Print file)) names (same, inl e) = absurd (cc)
+usage_of (Some (words.Print file)) names (same, inr e) = absurd (cc)
+usage_of (Some (words.Check theory cert)) names (inl (same, e)) = absurd (cc)
+usage_of (Some (words.Check theory cert)) names (inr (same, inl e)) = absurd (cc)
+usage_of (Some (words.Check theory cert)) names (inr (same, inr (inl e))) = absurd (cc)
+usage_of (Some (words.Check theory cert)) names (inr (same, inr (inr e))) = absurd (cc)
+usage_of (Some (words.Serve theory sessions)) names (same, e) = absurd (cc)
+
+ends_otherwise : (ends : List End) → ends_status ends ≡ status.Usage → ⊥
+ends_otherwise [] e = absurd (cc)
+ends_otherwise (Done ∷ more) e = ends_otherwise more e
+ends_otherwise (ReadFault ∷ more) e = absurd (cc)
+ends_otherwise (WriteFault ∷ more) e = absurd (cc)
+ends_otherwise (Spent ∷ more) e = absurd (cc)
+
+-- sessions do not end so
+pub serves_otherwise : (tells : Bool) (old new : HouseState) (given before : List (List ℕ)) → ServesNames tells old new given before status.Usage → ⊥
+serves_otherwise tells old new given before serves = by serves.serves
+  where
+    printed : (expected : Status) (text : List ℕ) → (expected ≡ status.Usage → ⊥) → Prints tells old new text expected status.Usage → ⊥
+    printed expected text other (inl p) = other (sym p.same)
+    printed expected text other (inr cut) = absurd (cc (cut.fault))
+
+    by : Serves tells old new serves.theory serves.names (before ++ output_names serves.names) status.Usage → ⊥
+    by (inl has) = printed (ends_status (ends_of has.accounts)) _ (ends_otherwise (ends_of has.accounts)) has.printed
+    by (inr stops) = elim stops.cause as (λ _. ⊥) [
+      | inl failed ↦ absurd (cc (failed.fault))
+      | inr lacked ↦ absurd (cc (lacked.memory))
+    ]
+
+-- where the program is done, the file of the theory loads
+pub done_loads : (old new : HouseState) (given before : List (List ℕ)) (asked : words.Form) (bytes : List ℕ) → form given ≡ Some asked → old.holds (words.file_of asked) ≡ Some bytes
+    → ServesNames true old new given before status.Done → (T : TheoryLists) × IsTheoryFile bytes T
+done_loads old new given before asked bytes is held serves =
+    let same : asked ≡ words.Serve serves.theory serves.names = cc (is, serves.asks) in
+    by (subst (λ (f : words.Form). old.holds (words.file_of f) ≡ Some bytes) same held) serves.serves
+  where
+    by : old.holds serves.theory ≡ Some bytes → Serves true old new serves.theory serves.names (before ++ output_names serves.names) status.Done → (T : TheoryLists) × IsTheoryFile bytes T
+    by there (inl has) =
+        let loads = has.loads refl in
+        (has.T, subst (λ (b : List ℕ). IsTheoryFile b has.T) (same_bytes (old.holds serves.theory) loads.0 bytes loads.1 there) loads.2)
+    by there (inr stops) = elim stops.cause as (λ _. (T : TheoryLists) × IsTheoryFile bytes T) [
+      | inl failed ↦ absurd (cc (failed.fault))
+      | inr lacked ↦ absurd (cc (lacked.memory))
+    ]
+
 -- what the house's count did not stop ends as its outcome does, or for want of memory
 module _ (old new : HouseState) (words : List (List ℕ)) (ends expected : Status) (calm : Rose old.faults new.faults → ⊥)
-    (only : (names : List (List ℕ)) (outcome : Outcome) → Shows old.holds (form words) names outcome → outcome.status ≡ expected) where
+    (only : (names : List (List ℕ)) (outcome : Outcome) → Shows old.holds (form words) names outcome → outcome.status ≡ expected)
+    (served : ServesNames true old new words (standard ∷ []) ends → (ends ≡ expected) ⊎ (ends ≡ status.Memory)) where
   pub ends_so : Answers true old new words ends → (ends ≡ expected) ⊎ (ends ≡ status.Memory)
   ends_so (inl says) = let o = says.shown refl in inl (o.2 ∙ only says.names o.0 o.1)
   ends_so (inr (inl fails)) = absurd (calm fails.rose)
-  ends_so (inr (inr lacks)) = inr lacks.memory
+  ends_so (inr (inr (inl lacks))) = inr lacks.memory
+  ends_so (inr (inr (inr serves))) = served serves
+
+-- who asks for something else is not served
+module _ (tells : Bool) (old new : HouseState) (given before : List (List ℕ)) (ends : Status) where
+  pub alone_unserved : (asked : words.Form) → form given ≡ Some asked → words.IsAlone asked → ServesNames tells old new given before ends → ⊥
+  alone_unserved asked is alone serves =
+      let same : asked ≡ words.Serve serves.theory serves.names = cc (is, serves.asks) in
+      subst (λ (f : words.Form). words.IsAlone f) same alone
+
+  pub check_unserved : (theory cert : List ℕ) → form given ≡ Some (words.Check theory cert) → ServesNames tells old new given before ends → ⊥
+  check_unserved theory cert is serves = absurd (cc (is, serves.asks))
+
+-- nor is who asks for sessions from a file that is refused
+pub refused_unserved : (old new : HouseState) (given before : List (List ℕ)) (ends expected : Status) (asked : words.Form) (bytes : List ℕ) (x : Refusal) → form given ≡ Some asked
+    → old.holds (words.file_of asked) ≡ Some bytes → IsRefusal bytes x → (Rose old.faults new.faults → ⊥) → ServesNames true old new given before ends → (ends ≡ expected) ⊎ (ends ≡ status.Memory)
+refused_unserved old new given before ends expected asked bytes x is held refusal calm serves =
+    let same : asked ≡ words.Serve serves.theory serves.names = cc (is, serves.asks) in
+    by (subst (λ (f : words.Form). old.holds (words.file_of f) ≡ Some bytes) same held) serves.serves
+  where
+    stopped : HasFailed old new serves.theory ends ⊎ HasLacked old new ends → (ends ≡ expected) ⊎ (ends ≡ status.Memory)
+    stopped (inl failed) = absurd (calm failed.rose)
+    stopped (inr lacked) = inr lacked.memory
+
+    by : old.holds serves.theory ≡ Some bytes → Serves true old new serves.theory serves.names (before ++ output_names serves.names) ends → (ends ≡ expected) ⊎ (ends ≡ status.Memory)
+    by there (inl has) =
+        let loads = has.loads refl in
+        absurd (not_both bytes has.T x (subst (λ (b : List ℕ). IsTheoryFile b has.T) (same_bytes (old.holds serves.theory) loads.0 bytes loads.1 there) loads.2) refusal)
+    by there (inr stops) = stopped stops.cause
