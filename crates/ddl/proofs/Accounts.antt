@@ -1,14 +1,12 @@
 -- From sessions that were served to what is said of them.
-use Rattle.std.proofs.Common.{◌≡◌, ◌∙◌, ◌⊎◌, ◌≤◌, ◌+◌, ℕ, inl, inr, List, [], ◌∷◌, ◌++◌, Bool, true, false, Option, None, Some, length, refl, sym, ap, subst, arith, cond, map, append_assoc, append-nil}
-use Rattle.std.specs.Prelude.{◌||◌, All}
-use Rattle.std.specs.List.{AllZip, range_with_len}
+use Rattle.std.proofs.Common.{◌≡◌, ◌∙◌, ◌≤◌, ◌+◌, ℕ, List, [], ◌∷◌, ◌++◌, Bool, true, false, Option, None, Some, length, refl, sym, ap, subst, arith, cond}
+use Rattle.std.specs.Prelude.{◌||◌}
+use Rattle.std.specs.List.{AllZip}
 use Rattle.std.specs.Io.KnownBytes.{prepend_known, append_known}
 use Rattle.std.specs.Str.{bytes_eq}
-use Rattle.dl_io.specs.Outside.{Rose, raised, at_name}
-use Rattle.dl_io.specs.Streams.{IsFront, IsKnownFront}
+use Rattle.dl_io.specs.Outside.{Rose, raised}
 use Rattle.dl_io.specs.House.{HouseState, standard, settled_out}
 use Rattle.dl_theory.specs.Lists.{TheoryLists}
-use Rattle.dl_turn.specs.History.{AllBelow}
 use Rattle.dl_calls.specs.declared.entry.Entry.{Entry}
 use Rattle.dl_lines.specs.declared.reader.TheConstants.{MOST_BYTES}
 use Rattle.dl_session.specs.declared.end.End.{End}
@@ -20,7 +18,7 @@ use Rattle.dl_journal.specs.Streams.{settled_all, AreFresh, begun}
 use Rattle.dl_journal.proofs.Names.{same_name, bytes_eq-sym, or_false}
 use Rattle.dl_journal.proofs.Settled.{IsSettled}
 use Rattle.ddl.specs.declared.status.Status.TheVariants as status
-use Rattle.ddl.specs.Serve.{Account, IsSessionOf, AreSessionsOf, IsHandedOn, IsAccountOf, ends_status, ends_of}
+use Rattle.ddl.specs.Serve.{Account, AreSessionsOf, IsHandedOn, IsAccountOf, ends_status, ends_of}
 use Rattle.ddl.specs.Serving.{Closed, last_told, closed_ends}
 use Rattle.ddl.specs.Whole.{TakesAtMost}
 
@@ -88,9 +86,9 @@ module _ (T : TheoryLists) (history : List Entry) where
         let read : final.share n ≡ raised (old.share n) c.0.read_faults = is.share ∙ ap (λ (f : List ℕ → ℕ). raised (f n) c.0.read_faults) share in
         let written : final.share_out (output_name n) ≡ raised (old.share_out (output_name n)) c.0.write_faults =
         ap (λ (b : Bool). cond b (raised (new.share_out standard) faults) (new.share_out (output_name n))) other ∙ is.share_out
-            ∙ ap (λ (f : List ℕ → ℕ). raised (f (output_name n)) c.0.write_faults) share_out in
+        ∙ ap (λ (f : List ℕ → ℕ). raised (f (output_name n)) c.0.write_faults) share_out in
         let zero : HasCause 0 c.0.read_faults 0 c.0.write_faults c.1 = subst (λ (a : ℕ). HasCause a c.0.read_faults 0 c.0.write_faults c.1) fresh.0.read_faults
-            (subst (λ (b : ℕ). HasCause t.read_faults c.0.read_faults b c.0.write_faults c.1) fresh.0.write_faults one.cause) in (
+        (subst (λ (b : ℕ). HasCause t.read_faults c.0.read_faults b c.0.write_faults c.1) fresh.0.write_faults one.cause) in (
           record {
             input = sym (ap (λ (f : List ℕ → Option (List ℕ)). f n) holds) ∙ sym fresh.0.rest ∙ one.took;
             left = is.left;

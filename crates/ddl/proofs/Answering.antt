@@ -1,13 +1,13 @@
 -- From a reply on a new sink, or from none, to what is said of the words.
-use Rattle.std.proofs.Common.{◌≡◌, ◌∙◌, ◌⊎◌, ◌≤◌, ◌+◌, ℕ, inl, inr, List, [], ◌∷◌, ◌++◌, Bool, true, false, Option, None, Some, Ok, Err, IfOk, refl, sym, ap, subst, arith, cond, append_assoc, append-nil, if◌then◌else◌}
+use Rattle.std.proofs.Common.{◌≡◌, ◌∙◌, ◌⊎◌, ◌+◌, ℕ, inl, inr, List, [], ◌∷◌, ◌++◌, Bool, true, false, Option, None, Some, Ok, Err, IfOk, refl, sym, ap, subst, arith, cond, append_assoc, append-nil, if◌then◌else◌}
 use Rattle.std.specs.Io.KnownBytes.{append_known}
 use Rattle.std.specs.Prelude.{Result}
 use Rattle.std.specs.Str.{bytes_eq}
 use Rattle.dl_io.specs.Outside.{Rose, raised, at_name}
 use Rattle.dl_io.specs.House.{HouseState, IsShut, standard, failed_out, settled_out}
 use Rattle.dl_lines.specs.declared.reader.TheConstants.{MOST_BYTES}
-use Rattle.dl_journal.specs.Names.{output_name, output_names, is_among}
-use Rattle.dl_journal.specs.Streams.{begun, GrowsBy}
+use Rattle.dl_journal.specs.Names.{output_names, is_among}
+use Rattle.dl_journal.specs.Streams.{begun}
 use Rattle.ddl.specs.declared.refusal.Refusal.{Refusal}
 use Rattle.ddl.specs.declared.reply.Reply.{Reply}
 use Rattle.ddl.specs.declared.reply.Reply.TheVariants as reply_of
@@ -18,8 +18,8 @@ use Rattle.ddl.specs.declared.whole.Stop.TheVariants as stop
 use Rattle.ddl.specs.declared.words.Command.{Command}
 use Rattle.ddl.specs.declared.words.Command.TheVariants as command
 use Rattle.ddl.specs.Replies.{reply_status, reply_text}
-use Rattle.ddl.specs.Run.{Outcome, outcome_of, Shows, refused, ReadsOnly, MayEnd, Replies, IsUnserved, Says, Fails, Lacks, ServesNames, AnswersBehind, Answers, Runs, files_for, files_of, outputs_of, most_for, session_outputs}
-use Rattle.ddl.specs.Serve.{HasFailed, HasLacked, HasStopped}
+use Rattle.ddl.specs.Run.{outcome_of, Shows, refused, ReadsOnly, MayEnd, Replies, IsUnserved, AnswersBehind, Answers, Runs, files_for, files_of, outputs_of, most_for, session_outputs}
+use Rattle.ddl.specs.Serve.{HasFailed, HasLacked}
 use Rattle.ddl.specs.Serving.{PrintsTo, SaysTo, CountsBy, Works}
 use Rattle.ddl.specs.Theories.{limit, IsRefusal}
 use Rattle.ddl.specs.Whole.{HasFault, TakesAtMost}

@@ -1,5 +1,5 @@
 -- From streams and sessions to what they tell.
-use Rattle.std.proofs.Common.{◌≡◌, ◌∙◌, ◌⊎◌, inl, inr, ℕ, ◌+◌, Bool, true, Option, List, [], ◌∷◌, length, map, refl, sym, ap, subst, arith}
+use Rattle.std.proofs.Common.{◌≡◌, ◌∙◌, inl, inr, ℕ, ◌+◌, Bool, true, Option, List, [], ◌∷◌, length, map, refl, sym, ap, subst, arith}
 use Rattle.std.specs.List.{range_with_len}
 use Rattle.std.proofs.lemmas.List.{length-map}
 use Rattle.dl_io.specs.House.{HouseState}
@@ -77,8 +77,8 @@ opened_open tells old names ts fresh =
     fresh_open tells old (opened_all old names) names ts
     (λ other e. opened_open_in old names other ∙ or_left (is_among other names) (old.open_in other) (among_take names (length ts) other e))
     (λ other e. opened_open_out old names other
-        ∙ or_left (is_among other (output_names names)) (old.open_out other)
-          (among_take (output_names names) (length ts) other (subst (λ (l : List (List ℕ)). is_among other l ≡ true) (map_take output_name names (length ts)) e)))
+    ∙ or_left (is_among other (output_names names)) (old.open_out other)
+    (among_take (output_names names) (length ts) other (subst (λ (l : List (List ℕ)). is_among other l ≡ true) (map_take output_name names (length ts)) e)))
     fresh
 
 -- From a hall that was served, or was not, to its sessions.
@@ -99,7 +99,7 @@ module _ (tells : Bool) (old mid new : HouseState) (T start : TheoryLists) (name
   })
   sessions_from (inr leaves) =
       let house : new ≡ settled_all (opened_all old names) names ts = leaves.house ∙ ap (λ (l : List (List ℕ)). settled_all mid l ts) opens.same
-          ∙ ap (λ (h : HouseState). settled_all h names ts) opens.house in
+      ∙ ap (λ (h : HouseState). settled_all h names ts) opens.house in
       inr (record {
         why = Memory;
         undoes = subst (λ (h : HouseState). Undoes tells old h names Memory) (sym house) (undone_all tells old names may ts opens.count opens.fresh);

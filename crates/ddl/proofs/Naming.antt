@@ -5,10 +5,9 @@ use Rattle.std.specs.Prelude.{not, ◌&&◌, ◌||◌, ◌==◌, String, string_
 use Rattle.std.specs.declared.alloc.Global.{Global}
 use Rattle.std.specs.Str.{bytes_eq}
 use Rattle.std.proofs.lemmas.Slice.Eq.{bytes_eq-Decides}
-use Rattle.dl_io.specs.House.{HouseState, standard}
+use Rattle.dl_io.specs.House.{standard}
 use Rattle.dl_journal.specs.Names.{output_name, output_names, is_among, AreDistinct, AreApart}
-use Rattle.dl_journal.specs.Streams.{MayOpen}
-use Rattle.dl_journal.proofs.Names.{same_name, bytes_eq-sym, outputs_eq, or_false}
+use Rattle.dl_journal.proofs.Names.{same_name, bytes_eq-sym, outputs_eq}
 use Rattle.ddl.specs.Words.{form, serve_form, are_names, are_apart, may_serve}
 
 pub output_is : (word front name : List ℕ) → bytes_eq (drop (length word - 4) word) (codes ".out") ≡ true → front ≡ take (length word - 4) word
@@ -16,7 +15,7 @@ pub output_is : (word front name : List ℕ) → bytes_eq (drop (length word - 4
 output_is word front name ends is =
     let n = length word - 4 in
     let whole : word ≡ output_name front = sym (take-append-drop n word) ∙ ap (λ (l : List ℕ). take n word ++ l) (same_name (drop n word) (codes ".out") ends)
-        ∙ ap (λ (l : List ℕ). l ++ codes ".out") (sym is) in
+    ∙ ap (λ (l : List ℕ). l ++ codes ".out") (sym is) in
     sym (ap (λ (w : List ℕ). bytes_eq w (output_name name)) whole ∙ outputs_eq front name)
 
 pub output_not : (word name : List ℕ) → bytes_eq (drop (length word - 4) word) (codes ".out") ≡ false → false ≡ bytes_eq word (output_name name)

@@ -1,14 +1,13 @@
 -- From what came of the words on an open sink, to a run of the program.
-use Rattle.std.proofs.Common.{◌≡◌, ◌⊎◌, inl, inr, ℕ, List, [], ◌∷◌, ◌++◌, Bool, true, false, Option, refl, sym, ap, subst, ◌∙◌, cond, append_assoc}
+use Rattle.std.proofs.Common.{◌≡◌, ◌⊎◌, inl, inr, ℕ, List, [], ◌∷◌, Bool, true, false, Option, refl, sym, ap, subst, ◌∙◌, cond, append_assoc}
 use Rattle.std.specs.List.{AllZip}
 use Rattle.std.specs.Str.{bytes_eq}
-use Rattle.dl_io.specs.Outside.{at_name}
 use Rattle.dl_io.specs.House.{HouseState, IsShut, opened_out, settled_out, standard}
 use Rattle.dl_journal.specs.Names.{output_names}
 use Rattle.ddl.specs.declared.status.Status.{Status}
-use Rattle.ddl.specs.Serve.{Account, IsAccountOf, IsPrinted, IsCut, HasServed, HasFailed, HasLacked, HasStopped, Serves, Prints}
+use Rattle.ddl.specs.Serve.{Account, IsAccountOf, HasFailed, HasLacked, Serves, Prints}
 use Rattle.ddl.specs.Serving.{Works}
-use Rattle.ddl.specs.Run.{Runs, Answers, AnswersBehind, outputs_of}
+use Rattle.ddl.specs.Run.{Runs, Answers, AnswersBehind}
 use Rattle.ddl.specs.Words.{form}
 
 closed : (b f : Bool) → f ≡ false → cond b false (cond b true f) ≡ false

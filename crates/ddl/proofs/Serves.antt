@@ -1,10 +1,10 @@
 -- From what the code did to a house, to what the clause of the program says of sessions.
-use Rattle.std.proofs.Common.{◌≡◌, ◌∙◌, ◌⊎◌, ◌≤◌, ◌+◌, ℕ, inl, inr, List, [], ◌∷◌, ◌++◌, Bool, true, false, Option, None, Some, length, refl, sym, ap, subst, arith, cond, map, append_assoc, append-nil, length-append, if◌then◌else◌}
+use Rattle.std.proofs.Common.{◌≡◌, ◌∙◌, ◌⊎◌, ◌≤◌, ◌+◌, ℕ, inl, inr, List, [], ◌∷◌, ◌++◌, Bool, true, false, Option, Some, length, refl, sym, ap, subst, arith, cond, append_assoc, append-nil, if◌then◌else◌}
 use Rattle.std.specs.List.{AllZip, range_with_len}
-use Rattle.std.specs.Io.KnownBytes.{prepend_known, append_known}
+use Rattle.std.specs.Io.KnownBytes.{append_known}
 use Rattle.std.specs.Str.{bytes_eq}
 use Rattle.std.proofs.lemmas.List.{length-map}
-use Rattle.dl_io.specs.Outside.{Rose, raised}
+use Rattle.dl_io.specs.Outside.{Rose}
 use Rattle.dl_io.specs.House.{HouseState, standard, settled_out}
 use Rattle.dl_io.specs.declared.house.OpenStop.{OpenStop}
 use Rattle.dl_io.specs.declared.house.OpenStop.TheVariants as open_stop
@@ -14,16 +14,16 @@ use Rattle.dl_lines.specs.declared.reader.TheConstants.{MOST_BYTES}
 use Rattle.dl_session.specs.declared.end.End.{End}
 use Rattle.dl_sessions.specs.Served.{Told}
 use Rattle.dl_journal.specs.Journal.{served_text}
-use Rattle.dl_journal.specs.Names.{output_name, output_names, is_among}
-use Rattle.dl_journal.specs.Streams.{MayOpen, opened_all, settled_all, AreFresh, begun, GrowsBy, HasStopCause, Undoes}
+use Rattle.dl_journal.specs.Names.{output_names, is_among}
+use Rattle.dl_journal.specs.Streams.{MayOpen, opened_all, settled_all, AreFresh, begun, GrowsBy, HasStopCause}
 use Rattle.dl_journal.proofs.Opened.{Opens, opens}
 use Rattle.dl_journal.proofs.Settled.{IsSettled, KeepsAsked, settled_asked, settled_other, settled_other_out, are_settled}
 use Rattle.dl_journal.proofs.Undone.{all_in, all_out}
 use Rattle.ddl.specs.declared.status.Status.{Status}
 use Rattle.ddl.specs.declared.status.Status.TheVariants as status
-use Rattle.ddl.specs.Serve.{Account, AreServed, ends_status, ends_of, IsPrinted, IsCut, Prints, HasServed, HasFailed, HasLacked, HasStopped, Serves, IsAccountOf}
-use Rattle.ddl.specs.Serving.{Closed, last_told, closed_ends, PrintsTo, ClosesHall, HasSessions, NoSessions, Sessions, stop_status, KeepsCounts, Works}
-use Rattle.ddl.specs.Run.{ReadsOnly, most_for}
+use Rattle.ddl.specs.Serve.{Account, AreServed, ends_status, Prints, HasServed, HasFailed, HasLacked, HasStopped, Serves, IsAccountOf}
+use Rattle.ddl.specs.Serving.{Closed, last_told, closed_ends, PrintsTo, ClosesHall, NoSessions, Sessions, stop_status, KeepsCounts, Works}
+use Rattle.ddl.specs.Run.{ReadsOnly}
 use Rattle.ddl.specs.Theories.{limit, IsTheoryFile}
 use Rattle.ddl.specs.Whole.{TakesAtMost}
 use Rattle.ddl.specs.Words.{Serve}

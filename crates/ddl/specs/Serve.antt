@@ -16,7 +16,7 @@ use Rattle.dl_session.specs.declared.end.End.TheVariants.{Done, ReadFault, Write
 use Rattle.dl_session.specs.Ends.{IsEnd, HasCause}
 use Rattle.dl_sessions.specs.Served.{enrolment}
 use Rattle.dl_journal.specs.Journal.{served_text}
-use Rattle.dl_journal.specs.Names.{output_name, output_names}
+use Rattle.dl_journal.specs.Names.{output_name}
 use Rattle.ddl.specs.declared.status.Status.{Status}
 use Rattle.ddl.specs.declared.status.Status.TheVariants as status
 use Rattle.ddl.specs.Theories.{IsTheoryFile}

@@ -19,7 +19,9 @@ use crate::status::Status;
 use crate::whole::Stop;
 use dl_board::Board;
 use dl_io::{Failed, House, OpenStop, Sink};
-use dl_journal::{Named, history_is_spelled, named_all, open_streams, settle_streams, write_served};
+use dl_journal::{
+    Named, history_is_spelled, named_all, open_streams, settle_streams, write_served,
+};
 use dl_session::End;
 use dl_sessions::{Hall, Served};
 use dl_theory::Theory;

@@ -36,7 +36,11 @@ pub(crate) fn settle_sessions<H: House>(
         H.state house.new ≡ settled_all (H.state house.old) (names_of names.now) (map (λ s. t s.source s.sink) sessions.items) }
 {
     while let Some(session) = sessions.pop() {
-        let Session { source, sink, end: _ } = session;
+        let Session {
+            source,
+            sink,
+            end: _,
+        } = session;
         settle_pair(house, &names[sessions.len()], source, sink);
     }
 }

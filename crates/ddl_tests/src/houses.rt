@@ -65,6 +65,32 @@ fn ended<R: Threads + Wait + Sync>(
     Ok((status, text.to_vec(alloc)?))
 }
 
+/// The house and how the program ended on the words.
+pub(crate) fn served<R: Threads + Wait + Sync>(
+    rt: &R,
+    alloc: Global,
+    words: &[&str],
+    files: &[File<'_>],
+) -> Result<(MemoryHouse, Status), Fail> {
+    let mut house = MemoryHouse::make(alloc);
+    for file in files {
+        put(alloc, &mut house, *file)?;
+    }
+    let words = words_of(alloc, words)?;
+    let status = run(rt, alloc, &words, &mut house);
+    Ok((house, status))
+}
+
+/// What was written under a name, and no byte where nothing was settled.
+pub(crate) fn text_under(alloc: Global, house: &MemoryHouse, name: &str) -> Result<Vec<u8>, Fail> {
+    let name = String::from_str(alloc, name)?;
+    let text = match house.wrote(&name) {
+        Some(text) => text.to_vec(alloc)?,
+        None => Vec::new(alloc),
+    };
+    Ok(text)
+}
+
 /// Words, and the two files that a house has.
 #[derive(Clone, Copy)]
 pub(crate) struct Asked<'a> {

@@ -11,3 +11,5 @@ mod certificates;
 mod faults;
 #[cfg(test)]
 mod houses;
+#[cfg(test)]
+mod serving;

@@ -97,7 +97,7 @@ fresh_open tells old house (first ∷ more) (t ∷ ts) ins outs fresh = (
     sink_name = fresh.0.sink_name;
   },
   fresh_open tells old house more ts (λ other among. ins other (or_right (bytes_eq first other) (is_among other (take (length ts) more)) among))
-  (λ other among. outs other (or_right (bytes_eq (output_name first) other) (is_among other (output_names (take (length ts) more))) among)) fresh.1,
+      (λ other among. outs other (or_right (bytes_eq (output_name first) other) (is_among other (output_names (take (length ts) more))) among)) fresh.1,
 )
 
 pub fresh_within : (tells : Bool) (house : HouseState) (names : List (List ℕ)) (ts : List Told) → AreFresh tells house names ts → length ts ≤ length names

@@ -32,7 +32,7 @@ grown start mids ends all k one begins next (first, more, is, grows) = (
   take k all ++ first,
   more ++ drop (suc k) all,
   sym (take-append-drop (suc k) all) ∙ ap (λ (l : List (List ℕ)). l ++ drop (suc k) all) (next ∙ ap (λ (l : List (List ℕ)). take k all ++ l) is)
-  ∙ ap (λ (l : List (List ℕ)). l ++ drop (suc k) all) (sym (append_assoc (take k all) first more)) ∙ append_assoc (take k all ++ first) more (drop (suc k) all),
+      ∙ ap (λ (l : List (List ℕ)). l ++ drop (suc k) all) (sym (append_assoc (take k all) first more)) ∙ append_assoc (take k all ++ first) more (drop (suc k) all),
   grows ∙ ap (λ (l : List (List ℕ)). l ++ first) begins ∙ append_assoc start (take k all) first,
 )
 
@@ -60,7 +60,7 @@ module _ (tells : Bool) (old : HouseState) (names : List (List ℕ)) (may : MayO
   next_shut_out =
       opened_open_out old before (output_name name)
       ∙ either (is_among (output_name name) (output_names before)) (old.open_out (output_name name)) (among_outputs name before ∙ none_of_before)
-        (may.outputs (output_name name) (among_outputs name names ∙ among))
+      (may.outputs (output_name name) (among_outputs name names ∙ among))
 
   -- outputs of names before a place are outputs
   outputs_before : (other : List ℕ) → is_among other (output_names before) ≡ true → is_among other (output_names names) ≡ true
@@ -119,14 +119,14 @@ module _ (tells : Bool) (old : HouseState) (names : List (List ℕ)) (may : MayO
         settled_open_in mid names ts other within
         ∙ ap (λ (k : ℕ). cond (is_among other (take k names)) false (mid.open_in other)) count
         ∙ shut_again (is_among other before) (old.open_in other) (mid.open_in other) (undoes.open_in other ∙ opened_open_in old before other)
-          (λ e. may.inputs other (among_take names at other e))
+        (λ e. may.inputs other (among_take names at other e))
 
     undone_out : (other : List ℕ) → new.open_out other ≡ old.open_out other
     undone_out other =
         settled_open_out mid names ts other within
         ∙ ap (λ (k : ℕ). cond (is_among other (output_names (take k names))) false (mid.open_out other)) count
         ∙ shut_again (is_among other (output_names before)) (old.open_out other) (mid.open_out other) (undoes.open_out other ∙ opened_open_out old before other)
-          (λ e. may.outputs other (outputs_before other e))
+        (λ e. may.outputs other (outputs_before other e))
 
     abbrev o : Opens old now before
     o = opens old before
@@ -186,7 +186,7 @@ module _ (tells : Bool) (old : HouseState) (names : List (List ℕ)) (may : MayO
     }
 
 -- All were opened, and settled as they were.
-module _ (tells : Bool) (old : HouseState) (names : List (List ℕ)) (may : MayOpen old names) (ts : List Told) (count : length ts ≡ length names) (fresh : AreFresh tells old names ts) where
+module _ (tells : Bool) (old : HouseState) (names : List (List ℕ)) (may : MayOpen old names) (ts : List Told) (count : length ts ≡ length names) where
   abbrev full : HouseState
   full = opened_all old names
 
@@ -196,20 +196,20 @@ module _ (tells : Bool) (old : HouseState) (names : List (List ℕ)) (may : MayO
   whole : take (length ts) names ≡ names
   whole = take_all (length ts) names (omega (arith, count))
 
-  all_in : (other : List ℕ) → again.open_in other ≡ old.open_in other
+  pub all_in : (other : List ℕ) → again.open_in other ≡ old.open_in other
   all_in other =
       settled_open_in full names ts other (omega (arith, count))
       ∙ ap (λ (l : List (List ℕ)). cond (is_among other l) false (full.open_in other)) whole
       ∙ shut_again (is_among other names) (old.open_in other) (full.open_in other) (opened_open_in old names other) (may.inputs other)
 
-  all_out : (other : List ℕ) → again.open_out other ≡ old.open_out other
+  pub all_out : (other : List ℕ) → again.open_out other ≡ old.open_out other
   all_out other =
       settled_open_out full names ts other (omega (arith, count))
       ∙ ap (λ (l : List (List ℕ)). cond (is_among other (output_names l)) false (full.open_out other)) whole
       ∙ shut_again (is_among other (output_names names)) (old.open_out other) (full.open_out other) (opened_open_out old names other) (may.outputs other)
 
-  pub undone_all : Undoes tells old again names Memory
-  undone_all =
+  pub undone_all : AreFresh tells old names ts → Undoes tells old again names Memory
+  undone_all fresh =
       let o = opens old names in
       let k = settled_asked full names ts in
       record {

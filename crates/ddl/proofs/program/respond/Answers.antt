@@ -1,4 +1,4 @@
-use Rattle.std.proofs.Common.{◌≡◌, ℕ, List, [], Option, Some, None, refl, sym, subst, map, string_bytes, append-nil}
+use Rattle.std.proofs.Common.{◌≡◌, [], Option, Some, None, refl, sym, subst, map, string_bytes, append-nil}
 use Rattle.ddl.specs.declared.words.Asked.{Asked}
 use Rattle.ddl.specs.declared.reply.Reply.TheVariants.{Usage}
 use Rattle.ddl.specs.Run.{usage}

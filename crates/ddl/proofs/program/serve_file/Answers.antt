@@ -1,4 +1,4 @@
-use Rattle.std.proofs.Common.{◌≡◌, ◌∙◌, ℕ, List, [], Bool, Some, Err, inl, inr, refl, sym, ap, subst, map, string_bytes, true}
+use Rattle.std.proofs.Common.{◌≡◌, ◌∙◌, ℕ, List, [], Bool, Some, Err, inr, refl, sym, ap, subst, map, string_bytes, true}
 use Rattle.dl_theory.specs.Lists.{TheoryLists}
 use Rattle.ddl.specs.declared.reply.Reply.{Reply}
 use Rattle.ddl.specs.declared.theory_file.Loaded.{Loaded}
@@ -38,10 +38,10 @@ returns-in-Ok-Theory-clause-house g c =
     let reads = c.load.ensures.house in
     let able = servable file names c.requires.may in
     let may = may_open mid file names able (λ name. ap (λ (f : List ℕ → Bool). f name) reads.open_in ∙ c.requires.shut name)
-        (λ name apart. ap (λ (f : List ℕ → Bool). f name) reads.open_out ∙ c.requires.only name apart) in
+    (λ name apart. ap (λ (f : List ℕ → Bool). f name) reads.open_out ∙ c.requires.only name apart) in
     let loads : g.H.House.tells ≡ true → (bytes : List ℕ) × (old.holds file ≡ Some bytes) × IsTheoryFile bytes c.in-Ok-Theory.theory = λ told.
-        let gives = c.in-Ok-Theory.ensures.loaded told in
-        (gives.0, gives.1, subst (λ (x : Loaded TheoryLists). IsLoaded (λ (T : TheoryLists). T) gives.0 x) c.in-Ok-Theory.field-0-is gives.2) in
+    let gives = c.in-Ok-Theory.ensures.loaded told in
+    (gives.0, gives.1, subst (λ (x : Loaded TheoryLists). IsLoaded (λ (T : TheoryLists). T) gives.0 x) c.in-Ok-Theory.field-0-is gives.2) in
     works g.H.House.tells old mid new file names c.in-Ok-Theory.theory (g.H.Out.Sink.handed sink) (g.H.Out.Sink.faults sink) c.serve-status.result reads
     c.in-Ok-Theory.ensures.asked c.in-Ok-Theory.ensures.cause c.in-Ok-Theory.ensures.counts loads able may c.serve-status.ensures.sessions
 
@@ -57,10 +57,10 @@ returns-in-Ok-Theory-clause-answer g c = λ words is.
     let reads = c.load.ensures.house in
     let able = servable file names c.requires.may in
     let may = may_open mid file names able (λ name. ap (λ (f : List ℕ → Bool). f name) reads.open_in ∙ c.requires.shut name)
-        (λ name apart. ap (λ (f : List ℕ → Bool). f name) reads.open_out ∙ c.requires.only name apart) in
+    (λ name apart. ap (λ (f : List ℕ → Bool). f name) reads.open_out ∙ c.requires.only name apart) in
     let loads : g.H.House.tells ≡ true → (bytes : List ℕ) × (old.holds file ≡ Some bytes) × IsTheoryFile bytes c.in-Ok-Theory.theory = λ told.
-        let gives = c.in-Ok-Theory.ensures.loaded told in
-        (gives.0, gives.1, subst (λ (x : Loaded TheoryLists). IsLoaded (λ (T : TheoryLists). T) gives.0 x) c.in-Ok-Theory.field-0-is gives.2) in
+    let gives = c.in-Ok-Theory.ensures.loaded told in
+    (gives.0, gives.1, subst (λ (x : Loaded TheoryLists). IsLoaded (λ (T : TheoryLists). T) gives.0 x) c.in-Ok-Theory.field-0-is gives.2) in
     inr (inr (inr (record {
       theory = file;
       names = names;
@@ -82,8 +82,8 @@ returns-in-Ok-Refused-clause-answer g c = λ words is.
     let sink = c.answer.new.sink in
     let x = c.in-Ok-Refused.refusal in
     let held : g.H.House.tells ≡ true → (bytes : List ℕ) × (old.holds file ≡ Some bytes) × IsRefusal bytes x = λ told.
-        let gives = c.in-Ok-Refused.ensures.loaded told in
-        (gives.0, gives.1, subst (λ (y : Loaded TheoryLists). IsLoaded (λ (T : TheoryLists). T) gives.0 y) c.in-Ok-Refused.field-0-is gives.2) in
+    let gives = c.in-Ok-Refused.ensures.loaded told in
+    (gives.0, gives.1, subst (λ (y : Loaded TheoryLists). IsLoaded (λ (T : TheoryLists). T) gives.0 y) c.in-Ok-Refused.field-0-is gives.2) in
     printed_answers g.H.House.tells old mid [] words (Some (Serve file names)) (sym is) (g.H.Out.Sink.handed sink) (g.H.Out.Sink.faults sink) c.answer.result c.load.ensures.house.wrote (Refused x)
     (refused_replies g.H.House.tells old mid file names x c.in-Ok-Refused.ensures.asked held) c.in-Ok-Refused.ensures.cause (λ told. let h = held told in (h.0, x, h.1, h.2))
     (c.answer.ensures.said g.H.House.tells c.requires.opened.nothing c.requires.opened.none_handed c.requires.opened.no_faults)

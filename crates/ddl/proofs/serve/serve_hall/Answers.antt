@@ -1,4 +1,4 @@
-use Rattle.std.proofs.Common.{◌≡◌, ◌∙◌, ℕ, List, map, length, inl, inr, refl, sym, subst, ap, arith}
+use Rattle.std.proofs.Common.{◌∙◌, List, map, inl, inr, refl, sym, subst, ap, arith}
 use Rattle.dl_session.specs.declared.end.End.{End}
 use Rattle.dl_sessions.specs.declared.session.Session.{Session}
 use Rattle.dl_sessions.specs.Served.{Told, told}

@@ -1,4 +1,4 @@
-use Rattle.std.proofs.Common.{List, map, string_bytes, vec_capacity, inl, inr, refl, sym}
+use Rattle.std.proofs.Common.{map, string_bytes, vec_capacity}
 use Rattle.dl_sessions.specs.Served.{Told, told}
 use Rattle.dl_journal.specs.Streams.{names_of}
 use Rattle.ddl.specs.declared.status.Status.TheVariants.{Memory}

@@ -1,4 +1,4 @@
-use Rattle.std.proofs.Common.{◌≡◌, ◌∙◌, ◌-◌, ℕ, List, Bool, true, false, sym, ap, subst, codes, drop, take, length}
+use Rattle.std.proofs.Common.{◌∙◌, ℕ, List, ap}
 use Rattle.std.specs.Str.{bytes_eq}
 use Rattle.dl_journal.specs.Names.{output_name}
 use Rattle.ddl.proofs.Naming.{output_is, output_not}

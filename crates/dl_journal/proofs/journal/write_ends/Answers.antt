@@ -20,7 +20,7 @@ returns-in_err-write_end-clause-bytes g c =
     let is = item_is ends at end (sym (slice_get-get_or ends at Done c.loop-number-test.true)) in
     let line : ℕ × End → List ℕ = λ numbered. end_line numbered.0 numbered.1 in
     rw p.1 (cut_line line (enumerate_from 0 ends) at (at, end) _ _ _ cut.0 (numbered_within ends at c.loop-number-test.true) (numbered_at ends at end c.loop-number-test.true is)
-      (c.loop-number.invariant.bytes ∙ ap (λ (l : List (ℕ × End)). append_known (g.S.Sink.written c.args.sink.now) (flat_map line l)) (numbered_take 0 ends at)) cut.1 cut.2)
+    (c.loop-number.invariant.bytes ∙ ap (λ (l : List (ℕ × End)). append_known (g.S.Sink.written c.args.sink.now) (flat_map line l)) (numbered_take 0 ends at)) cut.1 cut.2)
 
 pub loop-number-preserved : goal.loop-number-preserved
 loop-number-preserved g c =

@@ -14,7 +14,7 @@ returns-in_err-write_entry-clause-bytes g c =
     let cut = c.in_err-write_entry.ensures.bytes in
     let history = c.args.board.now.history in
     rw p.1 (cut_line entry_text history c.loop-entry.at c.in-Some.entry.now _ _ _ cut.0 (item_within history c.loop-entry.at c.in-Some.entry.now c.in-Some.ensures)
-      (item_is history c.loop-entry.at c.in-Some.entry.now c.in-Some.ensures) c.loop-entry.invariant.bytes cut.1 cut.2)
+    (item_is history c.loop-entry.at c.in-Some.entry.now c.in-Some.ensures) c.loop-entry.invariant.bytes cut.1 cut.2)
 
 pub overflow_add-at : goal.overflow_add-at
 overflow_add-at g c =

@@ -15,7 +15,7 @@ open_pair-requires-clause-input g c κs within =
     let at = length c.loop-house.room.items in
     let name = string_bytes c.index-names-len.result.name in
     let there = subst (λ (k : ℕ). slice_get names k ≡ Some name) (c.len-in-loop-house.ensures ∙ c.loop-house.room.ok.0)
-        (name_at c.args.names.now c.len-in-loop-house.result c.index-names-len.result (omega (arith, c.loop-house-test.true, c.len.ensures, c.len-in-loop-house.ensures)) c.index-names-len.is) in
+    (name_at c.args.names.now c.len-in-loop-house.result c.index-names-len.result (omega (arith, c.loop-house-test.true, c.len.ensures, c.len-in-loop-house.ensures)) c.index-names-len.is) in
     let old = g.H.House.state c.args.house.now in
     subst (λ (h : HouseState). h.open_in name ≡ false) (sym c.loop-house.invariant.house) (next_shut g.H.House.tells old names c.requires.may at name there)
 
@@ -25,7 +25,7 @@ open_pair-requires-clause-output g c κs within =
     let at = length c.loop-house.room.items in
     let name = string_bytes c.index-names-len.result.name in
     let there = subst (λ (k : ℕ). slice_get names k ≡ Some name) (c.len-in-loop-house.ensures ∙ c.loop-house.room.ok.0)
-        (name_at c.args.names.now c.len-in-loop-house.result c.index-names-len.result (omega (arith, c.loop-house-test.true, c.len.ensures, c.len-in-loop-house.ensures)) c.index-names-len.is) in
+    (name_at c.args.names.now c.len-in-loop-house.result c.index-names-len.result (omega (arith, c.loop-house-test.true, c.len.ensures, c.len-in-loop-house.ensures)) c.index-names-len.is) in
     let old = g.H.House.state c.args.house.now in
     ap (g.H.House.state c.loop-house.house).open_out c.index-names-len.result.behind
     ∙ subst (λ (h : HouseState). h.open_out (output_name name) ≡ false) (sym c.loop-house.invariant.house) (next_shut_out g.H.House.tells old names c.requires.may at name there)
@@ -36,7 +36,7 @@ loop-house-preserved g c =
     let at = length c.loop-house.room.items in
     let name = string_bytes c.index-names-len.result.name in
     let there = subst (λ (k : ℕ). slice_get names k ≡ Some name) (c.len-in-loop-house.ensures ∙ c.loop-house.room.ok.0)
-        (name_at c.args.names.now c.len-in-loop-house.result c.index-names-len.result (omega (arith, c.loop-house-test.true, c.len.ensures, c.len-in-loop-house.ensures)) c.index-names-len.is) in
+    (name_at c.args.names.now c.len-in-loop-house.result c.index-names-len.result (omega (arith, c.loop-house-test.true, c.len.ensures, c.len-in-loop-house.ensures)) c.index-names-len.is) in
     let old = g.H.House.state c.args.house.now in
     let t = told g.H.In.Source.rest g.H.In.Source.faults g.H.In.Source.name g.H.Out.Sink.written g.H.Out.Sink.handed g.H.Out.Sink.faults g.H.Out.Sink.name in
     let f : g.row.H-In.Denot × g.row.H-Out.Denot → Told = λ s. t s.0 s.1 in
@@ -58,7 +58,7 @@ settle_streams-requires-clause-open g c κs within =
     let at = length c.loop-house.room.items in
     let name = string_bytes c.index-names-len.result.name in
     let there = subst (λ (k : ℕ). slice_get names k ≡ Some name) (c.len-in-loop-house.ensures ∙ c.loop-house.room.ok.0)
-        (name_at c.args.names.now c.len-in-loop-house.result c.index-names-len.result (omega (arith, c.loop-house-test.true, c.len.ensures, c.len-in-loop-house.ensures)) c.index-names-len.is) in
+    (name_at c.args.names.now c.len-in-loop-house.result c.index-names-len.result (omega (arith, c.loop-house-test.true, c.len.ensures, c.len-in-loop-house.ensures)) c.index-names-len.is) in
     let old = g.H.House.state c.args.house.now in
     let t = told g.H.In.Source.rest g.H.In.Source.faults g.H.In.Source.name g.H.Out.Sink.written g.H.Out.Sink.handed g.H.Out.Sink.faults g.H.Out.Sink.name in
     let f : g.row.H-In.Denot × g.row.H-Out.Denot → Told = λ s. t s.0 s.1 in
@@ -72,7 +72,7 @@ returns-in-Err-clause-undone g c =
     let at = length c.loop-house.room.items in
     let name = string_bytes c.index-names-len.result.name in
     let there = subst (λ (k : ℕ). slice_get names k ≡ Some name) (c.len-in-loop-house.ensures ∙ c.loop-house.room.ok.0)
-        (name_at c.args.names.now c.len-in-loop-house.result c.index-names-len.result (omega (arith, c.loop-house-test.true, c.len.ensures, c.len-in-loop-house.ensures)) c.index-names-len.is) in
+    (name_at c.args.names.now c.len-in-loop-house.result c.index-names-len.result (omega (arith, c.loop-house-test.true, c.len.ensures, c.len-in-loop-house.ensures)) c.index-names-len.is) in
     let old = g.H.House.state c.args.house.now in
     let t = told g.H.In.Source.rest g.H.In.Source.faults g.H.In.Source.name g.H.Out.Sink.written g.H.Out.Sink.handed g.H.Out.Sink.faults g.H.Out.Sink.name in
     let f : g.row.H-In.Denot × g.row.H-Out.Denot → Told = λ s. t s.0 s.1 in

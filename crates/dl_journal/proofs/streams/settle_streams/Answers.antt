@@ -20,28 +20,28 @@ pub settle_pair-requires-clause-input : goal.settle_pair-requires-clause-input
 settle_pair-requires-clause-input g c κs within =
     let t = told g.H.In.Source.rest g.H.In.Source.faults g.H.In.Source.name g.H.Out.Sink.written g.H.Out.Sink.handed g.H.Out.Sink.faults g.H.Out.Sink.name in
     let is = turn_open (λ s. t s.0 s.1) (g.H.House.state c.loop-source.house) c.args.names.now c.loop-source.streams.items c.pop.new.self.items (c.in-Some.source, c.in-Some.sink)
-        c.loop-source.invariant.opened c.in-Some.ensures.items c.len.result (c.len.ensures ∙ c.pop.new.self.ok.0) c.index-names-len.result c.index-names-len.is c.requires.distinct in
+    c.loop-source.invariant.opened c.in-Some.ensures.items c.len.result (c.len.ensures ∙ c.pop.new.self.ok.0) c.index-names-len.result c.index-names-len.is c.requires.distinct in
     is.input
 
 pub settle_pair-requires-clause-output : goal.settle_pair-requires-clause-output
 settle_pair-requires-clause-output g c κs within =
     let t = told g.H.In.Source.rest g.H.In.Source.faults g.H.In.Source.name g.H.Out.Sink.written g.H.Out.Sink.handed g.H.Out.Sink.faults g.H.Out.Sink.name in
     let is = turn_open (λ s. t s.0 s.1) (g.H.House.state c.loop-source.house) c.args.names.now c.loop-source.streams.items c.pop.new.self.items (c.in-Some.source, c.in-Some.sink)
-        c.loop-source.invariant.opened c.in-Some.ensures.items c.len.result (c.len.ensures ∙ c.pop.new.self.ok.0) c.index-names-len.result c.index-names-len.is c.requires.distinct in
+    c.loop-source.invariant.opened c.in-Some.ensures.items c.len.result (c.len.ensures ∙ c.pop.new.self.ok.0) c.index-names-len.result c.index-names-len.is c.requires.distinct in
     ap (g.H.House.state c.loop-source.house).open_out c.index-names-len.result.behind ∙ is.output
 
 pub settle_pair-requires-clause-source : goal.settle_pair-requires-clause-source
 settle_pair-requires-clause-source g c κs within =
     let t = told g.H.In.Source.rest g.H.In.Source.faults g.H.In.Source.name g.H.Out.Sink.written g.H.Out.Sink.handed g.H.Out.Sink.faults g.H.Out.Sink.name in
     let is = turn_open (λ s. t s.0 s.1) (g.H.House.state c.loop-source.house) c.args.names.now c.loop-source.streams.items c.pop.new.self.items (c.in-Some.source, c.in-Some.sink)
-        c.loop-source.invariant.opened c.in-Some.ensures.items c.len.result (c.len.ensures ∙ c.pop.new.self.ok.0) c.index-names-len.result c.index-names-len.is c.requires.distinct in
+    c.loop-source.invariant.opened c.in-Some.ensures.items c.len.result (c.len.ensures ∙ c.pop.new.self.ok.0) c.index-names-len.result c.index-names-len.is c.requires.distinct in
     is.source_name
 
 pub settle_pair-requires-clause-sink : goal.settle_pair-requires-clause-sink
 settle_pair-requires-clause-sink g c κs within =
     let t = told g.H.In.Source.rest g.H.In.Source.faults g.H.In.Source.name g.H.Out.Sink.written g.H.Out.Sink.handed g.H.Out.Sink.faults g.H.Out.Sink.name in
     let is = turn_open (λ s. t s.0 s.1) (g.H.House.state c.loop-source.house) c.args.names.now c.loop-source.streams.items c.pop.new.self.items (c.in-Some.source, c.in-Some.sink)
-        c.loop-source.invariant.opened c.in-Some.ensures.items c.len.result (c.len.ensures ∙ c.pop.new.self.ok.0) c.index-names-len.result c.index-names-len.is c.requires.distinct in
+    c.loop-source.invariant.opened c.in-Some.ensures.items c.len.result (c.len.ensures ∙ c.pop.new.self.ok.0) c.index-names-len.result c.index-names-len.is c.requires.distinct in
     is.sink_name ∙ sym c.index-names-len.result.behind
 
 pub loop-source-preserved : goal.loop-source-preserved
@@ -49,9 +49,9 @@ loop-source-preserved g c =
     let t = told g.H.In.Source.rest g.H.In.Source.faults g.H.In.Source.name g.H.Out.Sink.written g.H.Out.Sink.handed g.H.Out.Sink.faults g.H.Out.Sink.name in
     let house = g.H.House.state c.loop-source.house in
     let others = turn_others (λ s. t s.0 s.1) house c.args.names.now c.loop-source.streams.items c.pop.new.self.items (c.in-Some.source, c.in-Some.sink)
-        c.loop-source.invariant.opened c.in-Some.ensures.items c.len.result (c.len.ensures ∙ c.pop.new.self.ok.0) c.index-names-len.result c.index-names-len.is c.requires.distinct in
+    c.loop-source.invariant.opened c.in-Some.ensures.items c.len.result (c.len.ensures ∙ c.pop.new.self.ok.0) c.index-names-len.result c.index-names-len.is c.requires.distinct in
     let left = turn_left (λ s. t s.0 s.1) house c.args.names.now c.loop-source.streams.items c.pop.new.self.items (c.in-Some.source, c.in-Some.sink)
-        c.loop-source.invariant.opened c.in-Some.ensures.items c.len.result (c.len.ensures ∙ c.pop.new.self.ok.0) c.index-names-len.result c.index-names-len.is c.requires.distinct in
+    c.loop-source.invariant.opened c.in-Some.ensures.items c.len.result (c.len.ensures ∙ c.pop.new.self.ok.0) c.index-names-len.result c.index-names-len.is c.requires.distinct in
     record {
       within = omega (arith, c.loop-source.invariant.within, c.in-Some.ensures.len);
       opened = subst (λ (h : HouseState). AreOpen h (names_of c.args.names.now) (map (λ s. t s.0 s.1) c.pop.new.self.items)) (sym c.settle_pair.ensures) others;
