@@ -231,8 +231,8 @@ fn a_name_that_is_not_there_stops_the_program_before_its_sessions(
     let alloc = rt.alloc();
     let files = [faultless("t", b">> p\n")];
     let (house, status) = served(&rt, alloc, &["serve", "t", "a"], &files)?;
-    assert_eq!(&rt; text_under(alloc, &house, "a.out")?.as_slice(), b"");
-    assert_eq!(&rt; text_under(alloc, &house, "-")?.as_slice(), b"");
+    assert!(&rt; text_under(alloc, &house, "a.out")?.is_empty());
+    assert!(&rt; text_under(alloc, &house, "-")?.is_empty());
     assert_eq!(&rt; status, Status::Fault);
     Ok(())
 }
@@ -255,7 +255,7 @@ fn sessions_have_names_of_their_own(rt: HostRuntime) -> Result<(), Fail> {
     let files = [faultless("t", b""), faultless("a", b"publish\n")];
     for words in NO_SESSIONS.iter() {
         let (house, status) = served(&rt, alloc, words, &files)?;
-        assert_eq!(&rt; text_under(alloc, &house, "a.out")?.as_slice(), b"");
+        assert!(&rt; text_under(alloc, &house, "a.out")?.is_empty());
         assert_eq!(&rt; status, Status::Usage);
     }
     Ok(())
