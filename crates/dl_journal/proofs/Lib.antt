@@ -3,3 +3,4 @@ pub mod Names
 pub mod Opened
 pub mod Settled
 pub mod Undone
+mod Printed

@@ -1,7 +1,8 @@
 -- What is printed after sessions were served: the journal, and how each session ended.
-use Rattle.std.specs.Prelude.{ℕ, List, [], ◌∷◌, ◌++◌, codes, decimal}
+use Rattle.std.specs.Prelude.{◌≡◌, ℕ, List, [], ◌∷◌, ◌++◌, All, codes, decimal}
 use Rattle.std.specs.List.{enumerate_from, flat_map}
 use Rattle.dl_calls.specs.declared.entry.Entry.{Entry}
+use Rattle.dl_calls.specs.Spelled.{IsSpelled}
 use Rattle.dl_calls.specs.Text.{journal_text}
 use Rattle.dl_session.specs.declared.end.End.{End}
 use Rattle.dl_session.specs.declared.end.End.TheVariants.{Done, ReadFault, WriteFault, Spent}
@@ -23,3 +24,8 @@ ends_text ends = flat_map (λ (numbered : ℕ × End). end_line numbered.0 numbe
 -- a line for each entry of the history, and then one for each session
 abbrev pub served_text : List Entry → List End → List ℕ
 served_text history ends = journal_text history ++ ends_text ends
+
+-- two histories with their ends that print one text are one
+abbrev pub PrintedTextsTell : Type 0
+PrintedTextsTell =
+    (xs ys : List Entry) (es fs : List End) → All IsSpelled xs → All IsSpelled ys → served_text xs es ≡ served_text ys fs → (xs ≡ ys) × (es ≡ fs)

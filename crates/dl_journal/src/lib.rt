@@ -6,10 +6,12 @@
 #![tactic(auto)]
 
 mod journal;
+mod laws;
 mod named;
 mod streams;
 
 pub use dl_base::Memory;
 pub use journal::{history_is_spelled, write_served};
+pub use laws::printed_texts_tell;
 pub use named::{Named, named_all};
 pub use streams::{open_streams, settle_pair, settle_streams};
