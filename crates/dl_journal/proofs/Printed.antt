@@ -1,8 +1,6 @@
 -- What is printed tells the history and the ends.
-use Rattle.std.proofs.Common.{◌≡◌, ◌∙◌, ◌+◌, ℕ, List, [], ◌∷◌, ◌++◌, All, refl, sym, ap, append_assoc, codes, decimal}
+use Rattle.std.proofs.Common.{◌≡◌, ◌∙◌, ◌+◌, ℕ, List, [], ◌∷◌, ◌++◌, refl, sym, ap, append_assoc, codes, decimal}
 use Rattle.std.specs.List.{enumerate_from, flat_map}
-use Rattle.dl_calls.specs.declared.entry.Entry.{Entry}
-use Rattle.dl_calls.specs.Spelled.{IsSpelled}
 use Rattle.dl_calls.proofs.Entries.{journal_tells}
 use Rattle.dl_calls.proofs.Words.{NoDigit, tails, same_front, fronts_differ}
 use Rattle.dl_session.specs.declared.end.End.{End}
