@@ -1,10 +1,11 @@
 -- The words of the command line.
-use Rattle.std.specs.Prelude.{◌≡◌, ℕ, List, [], ◌∷◌, map, Bool, true, false, not, ◌&&◌, Option, None, Some, if◌then◌else◌, codes, string_bytes}
+use Rattle.std.specs.Prelude.{◌≡◌, ℕ, List, [], ◌∷◌, map, length, Bool, true, false, not, ◌&&◌, nat_lt, nat_le, Option, None, Some, if◌then◌else◌, codes, string_bytes}
 use Rattle.std.specs.Option.{option_map}
 use Rattle.std.specs.Str.{bytes_eq}
 use Rattle.dl_lit.specs.declared.literal.Family.{Family}
 use Rattle.dl_lit.specs.declared.literal.Family.TheVariants.{Definite, Blocking, Propagating, Support}
 use Rattle.dl_journal.specs.Names.{output_names, is_among}
+use Rattle.ddl.specs.declared.words.TheConstants.{MOST_SESSIONS}
 use Rattle.ddl.specs.declared.words.Command.{Command}
 use Rattle.ddl.specs.declared.words.Command.TheVariants as command
 use Rattle.ddl.specs.declared.words.Asked.{Asked}
@@ -69,22 +70,36 @@ abbrev pub IsServable : Asked → Type 0
 IsServable (asked.Command command) = Unit {0}
 IsServable (asked.Serve theory names) = may_serve (string_bytes theory.now) (map string_bytes names.now) ≡ true
 
--- for now of one session
-abbrev pub serve_form : List ℕ → List ℕ → Option Form
-serve_form theory name = if may_serve theory (name ∷ []) then Some (Serve theory (name ∷ [])) else None
+-- there is a session, and there are no more than the most
+abbrev pub is_count : ℕ → Bool
+is_count count = nat_lt 0 count && nat_le count MOST_SESSIONS
 
--- the form of three words
-abbrev pub form_of_three : List ℕ → List ℕ → List ℕ → Option Form
-form_of_three command second third =
-    if bytes_eq command (codes "conclude") then conclude_form second third
-    else (if bytes_eq command (codes "check") then check_form second third
-    else (if bytes_eq command (codes "serve") then serve_form second third else None))
+-- sessions from the theory in a file, each under a name
+abbrev pub serve_form : List (List ℕ) → Option Form
+serve_form [] = None
+serve_form (theory ∷ names) = if is_count (length names) && may_serve theory names then Some (Serve theory names) else None
+
+-- the form of a command with one word behind it
+abbrev pub form_of_one : List ℕ → List ℕ → Option Form
+form_of_one command file = if bytes_eq command (codes "print") then print_form file else None
+
+-- the form of a command with two words behind it
+abbrev pub form_of_two : List ℕ → List ℕ → List ℕ → Option Form
+form_of_two command first second =
+    if bytes_eq command (codes "conclude") then conclude_form first second
+    else (if bytes_eq command (codes "check") then check_form first second else None)
+
+-- the form of a command that is replied to
+abbrev pub command_form : List ℕ → List (List ℕ) → Option Form
+command_form command [] = None
+command_form command (file ∷ []) = form_of_one command file
+command_form command (first ∷ second ∷ []) = form_of_two command first second
+command_form command (first ∷ second ∷ third ∷ more) = None
 
 -- the form of the words, if they have one
 abbrev pub form : List (List ℕ) → Option Form
-form (command ∷ file ∷ []) = if bytes_eq command (codes "print") then print_form file else None
-form (command ∷ second ∷ third ∷ []) = form_of_three command second third
-form words = None
+form [] = None
+form (command ∷ words) = if bytes_eq command (codes "serve") then serve_form words else command_form command words
 
 -- the file of the theory that the words name
 abbrev pub file_of : Form → List ℕ

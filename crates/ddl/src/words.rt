@@ -1,12 +1,15 @@
 //! The words of the command line.
 
-ghost use Rattle.std.specs.Prelude.{◌≡◌, ◌∷◌, [], false, codes, map, string_bytes, IfSome};
+ghost use Rattle.std.specs.Prelude.{◌≡◌, codes, map, string_bytes, IfSome};
 ghost use Rattle.std.specs.Str.{bytes_eq};
-ghost use Rattle.dl_journal.specs.Names.{output_name};
+ghost use Rattle.dl_journal.specs.Names.{output_name, output_names, is_among};
 ghost use Rattle.std.specs.Option.{option_map};
-ghost use Rattle.ddl.specs.Words.{form, form_of, asked_form, IsServable, form_of_three, conclude_form, check_form, serve_form, family_of};
+ghost use Rattle.ddl.specs.Words.{form, form_of, asked_form, IsServable, form_of_one, form_of_two, command_form, conclude_form, check_form, serve_form, family_of, are_names, are_apart};
 
 use dl_lit::Family;
+
+/// The most sessions that are served.
+pub const MOST_SESSIONS: usize = 64;
 
 /// What the words ask for.
 #[derive(Clone, Copy)]
@@ -65,7 +68,7 @@ fn check<'a>(theory: &'a String, cert: &'a String) -> Option<Command<'a>>
 
 /// Whether the word is the output of a session with this name.
 fn is_output(word: &str, name: &str) -> bool
-    ensures { result ≡ bytes_eq word.now (output_name name.now) }
+    ensures { result ≡ bytes_eq (output_name name.now) word.now }
 {
     match word.as_bytes().strip_suffix(b".out") {
         Some(front) => front == name.as_bytes(),
@@ -73,34 +76,102 @@ fn is_output(word: &str, name: &str) -> bool
     }
 }
 
-/// Sessions from the theory in a file. These are the names of one, for now.
-fn serve<'a>(theory: &'a String, name: &'a String, names: &'a [String]) -> Option<Asked<'a>>
-    requires { map string_bytes names.now ≡ string_bytes name.now ∷ [] }
-    ensures form { option_map asked_form result ≡ serve_form (string_bytes theory.now) (string_bytes name.now) }
-    ensures may { IfSome result IsServable }
+/// Whether one of the words is this name.
+fn is_among(name: &str, words: &[String]) -> bool
+    ensures { result ≡ is_among name.now (map string_bytes words.now) }
 {
-    if theory.is_empty() || name.is_empty() {
-        return None;
+    for word in words {
+        if word.as_str() == name {
+            return true;
+        }
     }
-    if theory.as_str() == name.as_str() || is_output(theory.as_str(), name.as_str()) {
-        return None;
-    }
-    Some(Asked::Serve(theory, names))
+    false
 }
 
-fn command_of_three<'a>(command: &str, second: &'a String, third: &'a String) -> Option<Asked<'a>>
-    requires { bytes_eq command.now (codes "serve") ≡ false }
-    ensures form { option_map asked_form result ≡ form_of_three command.now (string_bytes second.now) (string_bytes third.now) }
+/// Whether the word is the output of a session with one of these names.
+fn is_among_outputs(word: &str, names: &[String]) -> bool
+    ensures { result ≡ is_among word.now (output_names (map string_bytes names.now)) }
+{
+    for name in names {
+        if is_output(word, name.as_str()) {
+            return true;
+        }
+    }
+    false
+}
+
+/// Whether no word is empty, and none comes twice.
+fn are_names(words: &[String]) -> bool
+    ensures { result ≡ are_names (map string_bytes words.now) }
+{
+    let mut rest = words;
+    while let Some((word, others)) = rest.split_first() {
+        if word.is_empty() || is_among(word.as_str(), others) {
+            return false;
+        }
+        rest = others;
+    }
+    true
+}
+
+/// Whether none of the words is the output of a session with one of these names.
+fn are_apart(words: &[String], names: &[String]) -> bool
+    ensures { result ≡ are_apart (map string_bytes words.now) (output_names (map string_bytes names.now)) }
+{
+    for word in words {
+        if is_among_outputs(word.as_str(), names) {
+            return false;
+        }
+    }
+    true
+}
+
+/// Sessions from the theory in the first of the words, each under one of the others. Each word is compared with each: they are few.
+fn serve(words: &[String]) -> Option<Asked<'_>>
+    ensures form { option_map asked_form result ≡ serve_form (map string_bytes words.now) }
     ensures may { IfSome result IsServable }
 {
-    let asked = if command == "conclude" {
-        conclude(second.as_str(), third)?
-    } else if command == "check" {
-        check(second, third)?
-    } else {
+    let (theory, names) = words.split_first()?;
+    if names.is_empty() || names.len() > MOST_SESSIONS {
         return None;
-    };
-    Some(Asked::Command(asked))
+    }
+    if are_names(words) && are_apart(words, names) {
+        Some(Asked::Serve(theory, names))
+    } else {
+        None
+    }
+}
+
+fn command_of_one<'a>(command: &str, file: &'a String) -> Option<Command<'a>>
+    ensures { option_map form_of result ≡ form_of_one command.now (string_bytes file.now) }
+{
+    if command == "print" && !file.is_empty() {
+        Some(Command::Print(file))
+    } else {
+        None
+    }
+}
+
+fn command_of_two<'a>(command: &str, first: &'a String, second: &'a String) -> Option<Command<'a>>
+    ensures { option_map form_of result ≡ form_of_two command.now (string_bytes first.now) (string_bytes second.now) }
+{
+    if command == "conclude" {
+        conclude(first.as_str(), second)
+    } else if command == "check" {
+        check(first, second)
+    } else {
+        None
+    }
+}
+
+fn command_of<'a>(command: &str, words: &'a [String]) -> Option<Command<'a>>
+    ensures { option_map form_of result ≡ command_form command.now (map string_bytes words.now) }
+{
+    match words {
+        [file] => command_of_one(command, file),
+        [first, second] => command_of_two(command, first, second),
+        _ => None,
+    }
 }
 
 /// What these words ask for, if they have a form.
@@ -108,14 +179,10 @@ pub fn asked_of(words: &Vec<String>) -> Option<Asked<'_>>
     ensures form { option_map asked_form result ≡ form (map string_bytes words.now.items) }
     ensures may { IfSome result IsServable }
 {
-    match words.as_slice() {
-        [command, file] if command.as_str() == "print" && !file.is_empty() => {
-            Some(Asked::Command(Command::Print(file)))
-        }
-        [command, theory, name] if command.as_str() == "serve" => {
-            serve(theory, name, &words.as_slice()[2..])
-        }
-        [command, second, third] => command_of_three(command.as_str(), second, third),
-        _ => None,
+    let (command, others) = words.as_slice().split_first()?;
+    if command.as_str() == "serve" {
+        return serve(others);
     }
+    let command = command_of(command.as_str(), others)?;
+    Some(Asked::Command(command))
 }

@@ -66,19 +66,29 @@ fn ended<R: Threads + Wait + Sync>(
 }
 
 /// The house and how the program ended on the words.
-pub(crate) fn served<R: Threads + Wait + Sync>(
+pub(crate) fn served_words<R: Threads + Wait + Sync>(
     rt: &R,
     alloc: Global,
-    words: &[&str],
+    words: &Vec<String>,
     files: &[File<'_>],
 ) -> Result<(MemoryHouse, Status), Fail> {
     let mut house = MemoryHouse::make(alloc);
     for file in files {
         put(alloc, &mut house, *file)?;
     }
-    let words = words_of(alloc, words)?;
-    let status = run(rt, alloc, &words, &mut house);
+    let status = run(rt, alloc, words, &mut house);
     Ok((house, status))
+}
+
+/// The same on words that are written out.
+pub(crate) fn served<R: Threads + Wait + Sync>(
+    rt: &R,
+    alloc: Global,
+    words: &[&str],
+    files: &[File<'_>],
+) -> Result<(MemoryHouse, Status), Fail> {
+    let words = words_of(alloc, words)?;
+    served_words(rt, alloc, &words, files)
 }
 
 /// What was written under a name, and no byte where nothing was settled.

@@ -1,6 +1,6 @@
 //! Sessions under a name, from the bytes of their input to their output, their journal and their ends.
 
-use crate::houses::{File, faultless, served, text_under};
+use crate::houses::{File, faultless, served, served_words, text_under};
 use ddl::Status;
 use std::alloc::Global;
 use std::process::Abort;
@@ -237,8 +237,8 @@ fn a_name_that_is_not_there_stops_the_program_before_its_sessions(
     Ok(())
 }
 
-/// Words that ask for no sessions: too few or too many names, and names that are one or that are the output of another.
-const NO_SESSIONS: [&[&str]; 8] = [
+/// Words that ask for no sessions: too few names, an empty one, one that comes twice, and one that is the output of another.
+const NO_SESSIONS: [&[&str]; 10] = [
     &["serve"],
     &["serve", "t"],
     &["serve", "", "a"],
@@ -246,7 +246,9 @@ const NO_SESSIONS: [&[&str]; 8] = [
     &["serve", "a", "a"],
     &["serve", "a.out", "a"],
     &["serve", "t", "a", "a"],
-    &["serve", "t", "a", "b"],
+    &["serve", "t", "a", "b", "a"],
+    &["serve", "t", "a", "a.out"],
+    &["serve", "t", "a.out", "a"],
 ];
 
 #[test]
@@ -258,5 +260,57 @@ fn sessions_have_names_of_their_own(rt: HostRuntime) -> Result<(), Fail> {
         assert!(&rt; text_under(alloc, &house, "a.out")?.is_empty());
         assert_eq!(&rt; status, Status::Usage);
     }
+    Ok(())
+}
+
+/// The words that ask for so many sessions, under the names `0`, `1` and so on.
+fn words_for(alloc: Global, count: u64) -> Result<Vec<String>, Fail> {
+    let mut words = vec![in alloc;
+        String::from_str(alloc, "serve")?,
+        String::from_str(alloc, "t")?,
+    ]?;
+    for number in 0..count {
+        words.push(format!(in alloc; "{number}")?)?;
+    }
+    Ok(words)
+}
+
+/// The first name is not there, which shows only where names are looked for.
+#[test]
+fn there_are_at_most_64_sessions(rt: HostRuntime) -> Result<(), Fail> {
+    let alloc = rt.alloc();
+    let files = [faultless("t", b"")];
+    let (_, most) = served_words(&rt, alloc, &words_for(alloc, 64)?, &files)?;
+    assert_eq!(&rt; most, Status::Fault);
+    let (_, too_many) = served_words(&rt, alloc, &words_for(alloc, 65)?, &files)?;
+    assert_eq!(&rt; too_many, Status::Usage);
+    Ok(())
+}
+
+const PUBLICATIONS: &[u8] = b"publish\npublish\npublish\n";
+
+/// Each session publishes three editions of one draft. The input of the first fails behind its third line.
+#[test]
+fn sessions_publish_one_sequence_of_editions(rt: HostRuntime) -> Result<(), Fail> {
+    let alloc = rt.alloc();
+    let cut = File {
+        read_fails: &[1],
+        ..faultless("a", PUBLICATIONS)
+    };
+    let files = [faultless("t", b""), cut, faultless("b", PUBLICATIONS)];
+    let (house, status) = served(&rt, alloc, &["serve", "t", "a", "b"], &files)?;
+    let mut replies = text_under(alloc, &house, "a.out")?;
+    replies.extend_from_slice(text_under(alloc, &house, "b.out")?.as_slice())?;
+    assert_eq!(&rt; replies.len(), 6 * b"edition 0\n".len());
+    for digit in b'0'..b'6' {
+        assert_eq!(&rt; replies.iter().filter(|byte| **byte == digit).count(), 1);
+    }
+    let journal = text_under(alloc, &house, "-")?;
+    assert!(&rt;
+        journal
+            .as_slice()
+            .ends_with(b"session 0 read fault\nsession 1 done\n")
+    );
+    assert_eq!(&rt; status, Status::Fault);
     Ok(())
 }
