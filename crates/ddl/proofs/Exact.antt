@@ -37,6 +37,10 @@ module _ (holds : List ℕ → Option (List ℕ)) (asked : words.Form) (bytes : 
       let same : a ≡ asked = cc in
       same_bytes (holds (words.file_of asked)) bytes b held (subst (λ (f : words.Form). holds (words.file_of f) ≡ Some b) same h)
 
+  -- a file that is the only one has no certificate beside it
+  not_alone : words.IsAlone asked → (f c : List ℕ) → Some (words.Check f c) ≡ Some asked → ⊥
+  not_alone alone f c i = let same : words.Check f c ≡ asked = cc in subst (λ (a : words.Form). words.IsAlone a) (sym same) alone
+
   -- where the file loads, the words are answered
   pub loads_done : words.IsAlone asked → (T : TheoryLists) → IsTheoryFile bytes T → (form : Option words.Form) (names : List (List ℕ)) (outcome : Outcome) → form ≡ Some asked → Shows holds form names outcome
       → outcome.status ≡ status.Done
@@ -46,12 +50,9 @@ module _ (holds : List ℕ → Option (List ℕ)) (asked : words.Form) (bytes : 
         | refused a b x h r ↦ λ i. absurd (not_both b T x (subst (λ (y : List ℕ). IsTheoryFile y T) (bytes_of a b i h) t) r)
         | concluded f file b U cs h u c ↦ λ i. refl
         | printed file b U h u ↦ λ i. refl
-        | too_large f c b m U h u k l ↦ λ i. absurd (not_alone f c i)
-        | checked f c b m U x h u k l j ↦ λ i. absurd (not_alone f c i)
+        | too_large f c b m U h u k l ↦ λ i. absurd (not_alone alone f c i)
+        | checked f c b m U x h u k l j ↦ λ i. absurd (not_alone alone f c i)
       ] e
-    where
-      not_alone : (f c : List ℕ) → Some (words.Check f c) ≡ Some asked → ⊥
-      not_alone f c i = let same : words.Check f c ≡ asked = cc in subst (λ (a : words.Form). words.IsAlone a) (sym same) alone
 
   -- an answer that is done has a theory
   pub shown_loads : (form : Option words.Form) (names : List (List ℕ)) (outcome : Outcome) → form ≡ Some asked → Shows holds form names outcome → outcome.status ≡ status.Done
@@ -64,6 +65,19 @@ module _ (holds : List ℕ → Option (List ℕ)) (asked : words.Form) (bytes : 
         | printed file b U h u ↦ λ i d. (U, subst (λ (y : List ℕ). IsTheoryFile y U) (sym (bytes_of (words.Print file) b i h)) u)
         | too_large f c b m U h u k l ↦ λ i d. (U, subst (λ (y : List ℕ). IsTheoryFile y U) (sym (bytes_of (words.Check f c) b i h)) u)
         | checked f c b m U x h u k l j ↦ λ i d. (U, subst (λ (y : List ℕ). IsTheoryFile y U) (sym (bytes_of (words.Check f c) b i h)) u)
+      ] e
+
+  -- what is answered by a refusal is refused, where no certificate is asked about
+  pub shown_refused : words.IsAlone asked → (form : Option words.Form) (names : List (List ℕ)) (outcome : Outcome) → form ≡ Some asked → Shows holds form names outcome
+      → outcome.status ≡ status.Refused → (x : Refusal) × IsRefusal bytes x
+  shown_refused alone form names outcome e s =
+      elim s as (λ f n o _. f ≡ Some asked → o.status ≡ status.Refused → (x : Refusal) × IsRefusal bytes x) [
+        | usage ↦ λ i d. absurd (cc)
+        | refused a b x h r ↦ λ i d. (x, subst (λ (y : List ℕ). IsRefusal y x) (sym (bytes_of a b i h)) r)
+        | concluded f file b U cs h u c ↦ λ i d. absurd (cc)
+        | printed file b U h u ↦ λ i d. absurd (cc)
+        | too_large f c b m U h u k l ↦ λ i d. absurd (not_alone alone f c i)
+        | checked f c b m U x h u k l j ↦ λ i d. absurd (not_alone alone f c i)
       ] e
 
   -- where the file of the theory is refused, so are the words

@@ -2,9 +2,10 @@ use Rattle.std.proofs.Common.{◌≡◌, [], ◌∷◌, None, true, inl, inr, re
 use Rattle.dl_io.specs.House.{standard}
 use Rattle.ddl.specs.declared.status.Status.TheVariants.{Done, Refused}
 use Rattle.dl_theory.specs.Lists.{TheoryLists}
-use Rattle.ddl.specs.Theories.{IsTheoryFile}
+use Rattle.ddl.specs.declared.refusal.Refusal.{Refusal}
+use Rattle.ddl.specs.Theories.{IsTheoryFile, IsRefusal}
 use Rattle.ddl.specs.Words.{form}
-use Rattle.ddl.proofs.Exact.{ends_so, usage_of, serves_otherwise, done_loads, shown_loads, alone_unserved, refused_unserved, loads_done, refused_refused}
+use Rattle.ddl.proofs.Exact.{ends_so, usage_of, serves_otherwise, done_loads, shown_loads, shown_refused, alone_unserved, refused_unserved, loads_done, refused_refused}
 use Rattle.ddl.proofs.law.statuses_are_exact.Goals as goal
 
 pub returns-clause-usage : goal.returns-clause-usage
@@ -23,6 +24,15 @@ returns-clause-done c = λ old new words asked bytes answers is_form held.
       | inr (inl fails) ↦ absurd (cc (fails.fault))
       | inr (inr (inl lacks)) ↦ absurd (cc (lacks.memory))
       | inr (inr (inr serves)) ↦ done_loads old new words (standard ∷ []) asked bytes is_form held serves
+    ]
+
+pub returns-clause-refused : goal.returns-clause-refused
+returns-clause-refused c = λ old new words asked bytes answers is_form alone held.
+    elim answers as (λ _. (x : Refusal) × IsRefusal bytes x) [
+      | inl says ↦ (let o = says.shown refl in shown_refused old.holds asked bytes held alone (form words) says.names o.0 is_form o.1 (sym o.2))
+      | inr (inl fails) ↦ absurd (cc (fails.fault))
+      | inr (inr (inl lacks)) ↦ absurd (cc (lacks.memory))
+      | inr (inr (inr serves)) ↦ absurd (alone_unserved true old new words (standard ∷ []) Refused asked is_form alone serves)
     ]
 
 pub returns-clause-loads : goal.returns-clause-loads
