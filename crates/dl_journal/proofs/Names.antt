@@ -1,7 +1,7 @@
 -- Lemmas on the names of sessions.
 use Rattle.std.proofs.Common.{◌≡◌, ◌∙◌, ℕ, List, [], ◌∷◌, ◌++◌, Bool, true, false, refl, sym, ap, subst, codes, Some, take, zero, suc}
 use Rattle.std.specs.Prelude.{◌||◌, slice_get}
-use Rattle.core.specs.Bool.{one_answer}
+use Rattle.std.proofs.lemmas.Bool.Decides.{same_from_decides}
 use Rattle.std.specs.Str.{bytes_eq}
 use Rattle.std.proofs.lemmas.Slice.Eq.{bytes_eq-Decides}
 use Rattle.std.proofs.lemmas.List.{append_cancel_right}
@@ -12,11 +12,11 @@ pub same_name : (a b : List ℕ) → bytes_eq a b ≡ true → a ≡ b
 same_name a b e = (bytes_eq-Decides a b).0 e
 
 pub bytes_eq-sym : (a b : List ℕ) → bytes_eq a b ≡ bytes_eq b a
-bytes_eq-sym a b = one_answer {P = a ≡ b} (bytes_eq a b) (bytes_eq b a) (bytes_eq-Decides a b) ((λ e. sym (same_name b a e)), λ e. (bytes_eq-Decides b a).1 (sym e))
+bytes_eq-sym a b = same_from_decides {P = a ≡ b} (bytes_eq a b) (bytes_eq b a) (bytes_eq-Decides a b) ((λ e. sym (same_name b a e)), λ e. (bytes_eq-Decides b a).1 (sym e))
 
 pub outputs_eq : (a b : List ℕ) → bytes_eq (output_name a) (output_name b) ≡ bytes_eq a b
 outputs_eq a b =
-    one_answer {P = a ≡ b} (bytes_eq (output_name a) (output_name b)) (bytes_eq a b)
+    same_from_decides {P = a ≡ b} (bytes_eq (output_name a) (output_name b)) (bytes_eq a b)
     ((λ e. append_cancel_right a b (codes ".out") (same_name (output_name a) (output_name b) e)), λ e. (bytes_eq-Decides (output_name a) (output_name b)).1 (ap output_name e))
     (bytes_eq-Decides a b)
 
