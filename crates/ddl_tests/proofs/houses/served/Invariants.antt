@@ -1,6 +1,0 @@
-use Rattle.dl_io.specs.House.{IsShut}
-use Rattle.dl_io.specs.Memory.{house_in_memory}
-use Rattle.ddl_tests.proofs.houses.served.Given as goal
-
-abbrev pub invariant-loop-file : goal.invariant-loop-file
-invariant-loop-file g l = IsShut (house_in_memory l.house)
