@@ -1,0 +1,81 @@
+"""Theories as the program prints them, for the scripts beside this file. Nothing of these scripts is proved.
+
+The canonical text has a statement on each line: facts, rules, pairs. DDL names the program that is asked; it is `ddl` above this folder
+where the variable is not set.
+"""
+
+import os
+import re
+import signal
+import subprocess
+import sys
+from collections import namedtuple
+
+ROOT = os.path.dirname(os.path.dirname(os.path.realpath(__file__)))
+RULE = re.compile(r"(\w+): (?:(.*) )?(->|=>|~>) (\S+)")
+
+# who reads no further, as `head`, is no fault
+signal.signal(signal.SIGPIPE, signal.SIG_DFL)
+
+Rule = namedtuple("Rule", "label body kind head text")
+Theory = namedtuple("Theory", "facts rules pairs text")
+
+
+def end_with(usage):
+    print(usage, end="", file=sys.stderr)
+    sys.exit(2)
+
+
+def answer(*words, text=None):
+    """What the program prints on these words, with a text on its standard input. Where it has no answer, that is the end here too."""
+    run = subprocess.run([os.environ.get("DDL", ROOT + "/ddl"), *words], input=text, stdout=subprocess.PIPE, text=True, check=False)
+    if run.returncode != 0:
+        sys.stdout.write(run.stdout)
+        sys.exit(run.returncode)
+    return run.stdout
+
+
+def rule_of(line):
+    label, body, kind, head = RULE.fullmatch(line).groups()
+    return Rule(label, body.split(", ") if body else [], kind, head, line)
+
+
+def read(file, text=None):
+    """The theory of a file. Its canonical text is the same theory, so the program need not read the file again."""
+    printed = answer("print", file, text=text)
+    facts, rules, pairs = [], [], []
+    for line in printed.splitlines():
+        if line.startswith(">> "):
+            facts.append(line[3:])
+        elif ":" in line:
+            rules.append(rule_of(line))
+        else:
+            pairs.append(tuple(line.split(" > ")))
+    return Theory(facts, rules, pairs, printed)
+
+
+def verdicts(family, theory):
+    """The sign of each literal that the theory mentions: + where it is proved, - where it is refuted, ? where neither."""
+    lines = answer("conclude", family, "-", text=theory.text).splitlines()
+    return {line[3:]: line[0] for line in lines}
+
+
+def by_head(theory):
+    heads = {}
+    for rule in theory.rules:
+        heads.setdefault(rule.head, []).append(rule)
+    return heads
+
+
+def opposite(literal):
+    mode, bracket, sign_and_atom = literal.rpartition("]")
+    other = sign_and_atom[1:] if sign_and_atom.startswith("-") else "-" + sign_and_atom
+    return mode + bracket + other
+
+
+def atom(literal):
+    return literal.rpartition("]")[2].lstrip("-")
+
+
+def mode(literal):
+    return literal[1:].partition("]")[0] if literal.startswith("[") else None
