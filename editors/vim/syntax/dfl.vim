@@ -4,11 +4,8 @@ if exists('b:current_syntax')
 endif
 syntax case match
 
-" what stands nowhere in a line: a sign without meaning, a name that begins with a digit, a hyphen in a name
+" (of two that begin at one place the later one counts: an arrow is no sign without meaning)
 syntax match dflError /[^A-Za-z0-9_ \t>:,\[\]#-]/
-syntax match dflError /\<\d\k*/
-syntax match dflError /\k\zs-\ze\k/
-
 syntax match dflAtom /\<\h\w*\>/
 syntax match dflNegative /-\s*\h\w*\>/
 syntax match dflMode /\[\s*\h\w*\s*\]/
@@ -19,12 +16,13 @@ syntax match dflFact />>/
 syntax match dflStrict /->/
 syntax match dflDefeasible /=>/
 syntax match dflDefeater /\~>/
-syntax match dflVariables /(/
+" a name that begins with a digit, and a hyphen in a name
+syntax match dflError /\<\d\k*/
+syntax match dflError /\k\@1<=-\ze\k/
 syntax match dflComment /#.*$/ contains=dflTodo
 syntax keyword dflTodo TODO FIXME contained
 
 highlight default link dflError Error
-highlight default link dflVariables Error
 highlight default link dflAtom Identifier
 highlight default link dflNegative Constant
 highlight default link dflMode Type
