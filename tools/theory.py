@@ -26,12 +26,20 @@ def end_with(usage):
     sys.exit(2)
 
 
+class Unanswered(SystemExit):
+    """The program had no answer but this line. A script ends with its status then."""
+
+    def __init__(self, status, said):
+        super().__init__(status)
+        self.said = said
+
+
 def answer(*words, text=None):
     """What the program prints on these words, with a text on its standard input. Where it has no answer, that is the end here too."""
     run = subprocess.run([os.environ.get("DDL", ROOT + "/ddl"), *words], input=text, stdout=subprocess.PIPE, text=True, check=False)
     if run.returncode != 0:
         sys.stdout.write(run.stdout)
-        sys.exit(run.returncode)
+        raise Unanswered(run.returncode, run.stdout)
     return run.stdout
 
 
