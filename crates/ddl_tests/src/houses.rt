@@ -1,5 +1,6 @@
 //! Houses in memory, and how the program ends over them.
 
+ghost use Rattle.std.specs.Prelude.{IfOk};
 ghost use Rattle.dl_io.specs.House.{IsShut};
 ghost use Rattle.dl_io.specs.Memory.{house_in_memory};
 
@@ -42,7 +43,18 @@ fn put(alloc: Global, house: &mut MemoryHouse, file: File<'_>) -> Result<(), Fai
     Ok(())
 }
 
-fn words_of(alloc: Global, words: &[&str]) -> Result<Vec<String>, Fail> {
+/// A house with these files.
+pub(crate) fn filled(alloc: Global, files: &[File<'_>]) -> Result<MemoryHouse, Fail>
+    ensures { IfOk result (λ house. IsShut (house_in_memory house)) }
+{
+    let mut house = MemoryHouse::make(alloc);
+    for file in files {
+        put(alloc, &mut house, *file)?;
+    }
+    Ok(house)
+}
+
+pub(crate) fn words_of(alloc: Global, words: &[&str]) -> Result<Vec<String>, Fail> {
     let mut all = Vec::new(alloc);
     for word in words {
         all.push(String::from_str(alloc, word)?)?;
@@ -72,10 +84,7 @@ pub(crate) fn served_words<R: Threads + Wait + Sync>(
     words: &Vec<String>,
     files: &[File<'_>],
 ) -> Result<(MemoryHouse, Status), Fail> {
-    let mut house = MemoryHouse::make(alloc);
-    for file in files {
-        put(alloc, &mut house, *file)?;
-    }
+    let mut house = filled(alloc, files)?;
     let status = run(rt, alloc, words, &mut house);
     Ok((house, status))
 }
@@ -115,9 +124,7 @@ fn said<R: Threads + Wait + Sync>(
     alloc: Global,
     asked: Asked<'_>,
 ) -> Result<(Status, Vec<u8>), Fail> {
-    let mut house = MemoryHouse::make(alloc);
-    put(alloc, &mut house, asked.one)?;
-    put(alloc, &mut house, asked.other)?;
+    let mut house = filled(alloc, &[asked.one, asked.other])?;
     ended(rt, alloc, asked.words, &mut house)
 }
 

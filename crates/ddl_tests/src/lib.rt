@@ -12,4 +12,6 @@ mod faults;
 #[cfg(test)]
 mod houses;
 #[cfg(test)]
+mod meeting;
+#[cfg(test)]
 mod serving;

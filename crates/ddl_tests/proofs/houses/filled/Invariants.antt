@@ -1,6 +1,6 @@
 use Rattle.dl_io.specs.House.{IsShut}
 use Rattle.dl_io.specs.Memory.{house_in_memory}
-use Rattle.ddl_tests.proofs.houses.served_words.Given as goal
+use Rattle.ddl_tests.proofs.houses.filled.Given as goal
 
 abbrev pub invariant-loop-file : goal.invariant-loop-file
-invariant-loop-file g l = IsShut (house_in_memory l.house)
+invariant-loop-file l = IsShut (house_in_memory l.house)
