@@ -1,5 +1,5 @@
-//! Tests of what concludes, and of what keeps it: rooms, numbered theories, drafts, certificates and their checker, editions, journals and
-//! boards. None of them needs threads.
+//! Tests of what concludes, and of what keeps it: rooms, numbered theories, drafts, certificates and their checker, editions, journals,
+//! boards and what is generated. None of them needs threads.
 //!
 //! They are apart from what they test, since a crate with tests is proved twice, with them and without. Each file is about one subject.
 //! `texts` reads what the others need from text, and `editions` compares what editions say.
@@ -15,6 +15,8 @@ mod checking;
 mod drafts;
 #[cfg(test)]
 mod editions;
+#[cfg(test)]
+mod generated;
 #[cfg(test)]
 mod journals;
 #[cfg(test)]

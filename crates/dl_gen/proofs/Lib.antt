@@ -1,0 +1,5 @@
+pub mod Wrapping
+pub mod Spelling
+pub mod Fronts
+pub mod Accepting
+pub mod NoPairs

@@ -1,0 +1,125 @@
+//! Theories and calls that are generated from a number. What is expected was worked out apart, by the definition alone.
+
+ghost use Rattle.std.specs.Prelude.{◌≤◌};
+
+use crate::texts::sink;
+use dl_calls::{Call, Entry, Reply, write_entry};
+use dl_gen::{make_calls, make_theory};
+use dl_print::write_theory;
+use dl_theory::{Edit, Kind, Rule, Theory};
+use std::alloc::Global;
+use std::process::Abort;
+
+const SEED: u64 = 7;
+
+/// The theory with two atoms.
+const TWO: &str = ">> p1\nr0: => p0\nr1: -p0, -p1 ~> p0\nr2: p0, p0 => p0\nr3: p0 -> p1\nr4: -p1, p0 -> -p1\nr5: p1, -p1 => p1\nr0 > r1\nr4 > r3\n";
+
+/// The calls behind it, each as if it had been made.
+const TWO_CALLS: &str = "0 | enrol | ok\n0 | drop r2 | ok\n0 | drop r2 | ok\n0 | publish | ok\n";
+
+fn theory_of(rt: &impl Abort, alloc: Global, size: u64) -> Theory
+    requires { size ≤ 4096 }
+{
+    make_theory(alloc, SEED, size).expect(rt, "room")
+}
+
+fn calls_of(rt: &impl Abort, alloc: Global, size: u64) -> Vec<Call>
+    requires { size ≤ 4096 }
+{
+    make_calls(alloc, SEED, size).expect(rt, "room")
+}
+
+fn expect_theory(rt: &impl Abort, alloc: Global, theory: &Theory, text: &str) {
+    let mut written = sink(alloc);
+    let wrote = write_theory(&mut written, theory);
+    assert!(rt; wrote.is_ok());
+    assert!(rt; written.bytes() == text.as_bytes());
+}
+
+/// Compares calls by the lines that a journal would have for them.
+fn expect_calls(rt: &impl Abort, alloc: Global, calls: Vec<Call>, text: &str) {
+    let mut lines = sink(alloc);
+    for call in calls {
+        let reply = Reply::Edited;
+        let wrote = write_entry(
+            &mut lines,
+            &Entry {
+                seat: 0,
+                call,
+                reply,
+            },
+        );
+        assert!(rt; wrote.is_ok());
+    }
+    assert!(rt; lines.bytes() == text.as_bytes());
+}
+
+#[test]
+fn no_atoms_have_an_empty_theory_and_one_publication(rt: HostRuntime) {
+    let alloc = rt.alloc();
+    expect_theory(&rt, alloc, &theory_of(&rt, alloc, 0), "");
+    let calls = calls_of(&rt, alloc, 0);
+    expect_calls(&rt, alloc, calls, "0 | enrol | ok\n0 | publish | ok\n");
+}
+
+#[test]
+fn two_atoms_have_their_theory_and_calls(rt: HostRuntime) {
+    let alloc = rt.alloc();
+    expect_theory(&rt, alloc, &theory_of(&rt, alloc, 2), TWO);
+    expect_calls(&rt, alloc, calls_of(&rt, alloc, 2), TWO_CALLS);
+}
+
+fn of_kind(rules: &[Rule], kind: Kind) -> usize {
+    rules.iter().filter(|rule| rule.kind == kind).count()
+}
+
+#[test]
+fn two_blocks_have_their_rules(rt: HostRuntime) {
+    let theory = theory_of(&rt, rt.alloc(), 20);
+    assert_eq!(rt; theory.facts_len(), 3);
+    assert_eq!(rt; theory.rules_len(), 60);
+    assert_eq!(rt; theory.pairs_len(), 28);
+    assert_eq!(rt; of_kind(theory.rules(), Kind::Strict), 11);
+    assert_eq!(rt; of_kind(theory.rules(), Kind::Defeater), 5);
+    drop(theory);
+}
+
+fn is_dropped_rule(call: &Call) -> bool {
+    matches!(call, Call::Edit(Edit::DropRule(_)))
+}
+
+fn is_added_rule(call: &Call) -> bool {
+    matches!(call, Call::Edit(Edit::AddRule(_)))
+}
+
+fn is_added_fact(call: &Call) -> bool {
+    matches!(call, Call::Edit(Edit::AddFact(_)))
+}
+
+fn is_dropped_fact(call: &Call) -> bool {
+    matches!(call, Call::Edit(Edit::DropFact(_)))
+}
+
+fn is_publication(call: &Call) -> bool {
+    matches!(call, Call::Publish)
+}
+
+#[test]
+fn two_blocks_have_their_edits(rt: HostRuntime) {
+    let calls = calls_of(&rt, rt.alloc(), 20);
+    assert_eq!(rt; calls.len(), 22);
+    assert_eq!(rt; calls.iter().filter(|call| is_dropped_rule(call)).count(), 8);
+    assert_eq!(rt; calls.iter().filter(|call| is_added_rule(call)).count(), 2);
+    assert_eq!(rt; calls.iter().filter(|call| is_added_fact(call)).count(), 4);
+    assert_eq!(rt; calls.iter().filter(|call| is_dropped_fact(call)).count(), 6);
+    drop(calls);
+}
+
+#[test]
+fn sixty_four_edits_have_two_publications(rt: HostRuntime) {
+    let calls = calls_of(&rt, rt.alloc(), 64);
+    assert_eq!(rt; calls.len(), 67);
+    assert_eq!(rt; calls.iter().filter(|call| is_publication(call)).count(), 2);
+    drop(calls);
+}
