@@ -44,6 +44,7 @@ impl Atoms {
     }
 
     /// Draws a literal of the block of an atom.
+    #[tactic(auto, unfolding(crate::specs::Generator::draw_literal))]
     fn draw_literal(self, draws: &mut Draws, atom: u64) -> Result<Literal, Memory>
         requires { atom < self.size }
         ensures { Gives (draw_literal self.size atom draws.old.state) result draws.new.state }
@@ -54,6 +55,7 @@ impl Atoms {
     }
 
     /// Draws up to two of them.
+    #[tactic(auto, unfolding(crate::specs::Generator::draw_body))]
     fn draw_body(self, draws: &mut Draws, atom: u64) -> Result<Body, Memory>
         requires { atom < self.size }
         ensures { Gives (draw_body self.size atom draws.old.state) result draws.new.state }
@@ -68,6 +70,7 @@ impl Atoms {
     }
 
     /// Draws a rule for an atom.
+    #[tactic(auto, unfolding(crate::specs::Generator::draw_rule))]
     pub fn draw_rule(self, draws: &mut Draws, label: Name, atom: u64) -> Result<Rule, Memory>
         requires { atom < self.size }
         ensures { Gives (draw_rule self.size label atom draws.old.state) result draws.new.state }

@@ -18,6 +18,7 @@ const BETWEEN: u64 = 64;
 
 /// The calls that are generated from a number, with so many atoms: one seat makes them from the theory of the same number on. None of
 /// them adds a pair.
+#[tactic(auto, using(crate::proofs::NoPairs::calls_add_no_pair))]
 pub fn make_calls(alloc: Global, seed: u64, size: u64) -> Result<Vec<Call>, Memory>
     requires { size ≤ 4096 }
     ensures calls { IfOk result (λ calls. calls.items ≡ generated_calls seed size) }
@@ -38,6 +39,7 @@ pub fn make_calls(alloc: Global, seed: u64, size: u64) -> Result<Vec<Call>, Memo
 }
 
 /// Draws the edit with a number. Where it ends 64 edits, a publication stands behind it.
+#[tactic(auto, unfolding(crate::specs::Generator::draw_calls))]
 fn push_calls(
     list: &mut Vec<Call>,
     atoms: Atoms,
@@ -58,6 +60,7 @@ fn push_calls(
 }
 
 /// Draws the edit with a number.
+#[tactic(auto, unfolding(crate::specs::Generator::draw_edit))]
 fn draw_edit(atoms: Atoms, draws: &mut Draws, number: u64) -> Result<Edit, Memory>
     requires within { number < atoms.size }
     requires few { atoms.size ≤ 4096 }

@@ -21,6 +21,7 @@ impl Draws {
     }
 
     /// Draws a number below a bound.
+    #[tactic(auto, using(crate::proofs::Wrapping::wraps), unfolding(crate::specs::Generator::draw))]
     pub fn draw(&mut self, bound: u64) -> u64
         requires { 0 < bound }
         ensures value { result ≡ (draw bound self.old.state).value }

@@ -43,6 +43,7 @@ impl Lists {
     }
 
     /// Draws what there is for all atoms.
+    #[tactic(auto, unfolding(crate::specs::Generator::draw_lists))]
     pub fn draw(atoms: Atoms, draws: &mut Draws) -> Result<Lists, Memory>
         requires { atoms.size ≤ 4096 }
         ensures { Gives (draw_lists atoms.size draws.old.state) result draws.new.state }
@@ -55,6 +56,7 @@ impl Lists {
     }
 
     /// Draws what there is for an atom, and puts it behind the rest.
+    #[tactic(auto, unfolding(crate::specs::Generator::draw_part))]
     fn add_part(&mut self, atoms: Atoms, draws: &mut Draws, atom: u64) -> Result<(), Memory>
         requires within { atom < atoms.size }
         requires few { atoms.size ≤ 4096 }
@@ -66,6 +68,7 @@ impl Lists {
         self.add_pairs(atoms.alloc, draws, atom)
     }
 
+    #[tactic(auto, unfolding(crate::specs::Generator::draw_rules))]
     fn add_rules(&mut self, atoms: Atoms, draws: &mut Draws, atom: u64) -> Result<(), Memory>
         requires within { atom < atoms.size }
         requires few { atoms.size ≤ 4096 }
@@ -95,6 +98,7 @@ impl Lists {
         Ok(())
     }
 
+    #[tactic(auto, unfolding(crate::specs::Generator::draw_facts))]
     fn add_fact(&mut self, atoms: Atoms, draws: &mut Draws, atom: u64) -> Result<(), Memory>
         ensures lists { OnOk result (self.new ≡ record self.old { facts = self.old.facts ++ (draw_facts atom draws.old.state).value }) }
         ensures state { OnOk result (draws.new.state ≡ (draw_facts atom draws.old.state).state) }
@@ -106,6 +110,7 @@ impl Lists {
         Ok(())
     }
 
+    #[tactic(auto, unfolding(crate::specs::Generator::draw_pairs))]
     fn add_pairs(&mut self, alloc: Global, draws: &mut Draws, atom: u64) -> Result<(), Memory>
         requires { atom < 4096 }
         ensures lists { OnOk result (self.new ≡ record self.old { pairs = self.old.pairs ++ (draw_pairs atom draws.old.state).value }) }
