@@ -1,6 +1,6 @@
 //! The atoms, and what is drawn for one of them.
 
-ghost use Rattle.std.specs.Prelude.{◌≡◌, ◌<◌, ◌≤◌, IfOk};
+ghost use Rattle.std.specs.Prelude.{◌≡◌, ◌+◌, ◌<◌, ◌≤◌, IfOk};
 ghost use Rattle.dl_gen.specs.Generator.{block_begin, block_width, literal_at, kind_of, draw_literal, draw_body, draw_rule};
 ghost use Rattle.dl_gen.specs.Drawing.{Gives};
 
