@@ -6,7 +6,7 @@ use Rattle.std.proofs.lemmas.List.Elements.{All-nil, All-cons, All-append}
 use Rattle.dl_theory.specs.declared.edit.Edit as edit
 use Rattle.dl_calls.specs.declared.call.Call.{Call}
 use Rattle.dl_calls.specs.declared.call.Call.TheVariants.{Enrol, Edit, Publish}
-use Rattle.dl_gen.specs.Generator.{Drawn, draw, draw_each, draw_edit, draw_calls, draw_lists, generated_calls, AddsNoPair}
+use Rattle.dl_gen.specs.Generator.{Drawn, draw, draw_each, draw_dropped_rule, draw_added_rule, draw_added_fact, draw_dropped_fact, draw_edit, draw_calls, draw_lists, generated_calls, AddsNoPair}
 
 one_of_four : (a b c : Bool) (w x y z : Drawn edit.Edit) → AddsNoPair (Edit w.value) → AddsNoPair (Edit x.value) → AddsNoPair (Edit y.value)
     → AddsNoPair (Edit z.value) → AddsNoPair (Edit (if a then w else (if b then x else (if c then y else z))).value)
@@ -17,7 +17,10 @@ one_of_four false false false w x y z hw hx hy hz = hz
 
 edit_adds_none : (size k x : ℕ) → AddsNoPair (Edit (draw_edit size k x).value)
 unfolding draw_edit
-edit_adds_none size k x = one_of_four _ _ _ _ _ _ _ tt tt tt tt
+edit_adds_none size k x =
+    let choice = draw 4 x in
+    one_of_four (choice.value == 0) (choice.value == 1) (choice.value == 2) (draw_dropped_rule size choice.state) (draw_added_rule size k choice.state)
+    (draw_added_fact size choice.state) (draw_dropped_fact size choice.state) tt tt tt tt
 
 maybe_published : (b : Bool) → All AddsNoPair (if b then Publish ∷ [] else [])
 maybe_published true = All-cons AddsNoPair Publish [] tt (All-nil AddsNoPair)

@@ -1,6 +1,6 @@
 //! The calls of a number.
 
-ghost use Rattle.std.specs.Prelude.{◌≡◌, ◌*◌, ◌<◌, ◌≤◌, ◌++◌, IfOk, OnOk, All};
+ghost use Rattle.std.specs.Prelude.{◌≡◌, ◌*◌, ◌<◌, ◌≤◌, ◌++◌, true, IfOk, OnOk, All};
 ghost use Rattle.dl_gen.specs.Generator.{draw_dropped_rule, draw_added_rule, literal_at, draw, draw_edit, draw_calls, generated_calls, AddsNoPair};
 ghost use Rattle.dl_gen.specs.Drawing.{Gives};
 

@@ -12,7 +12,6 @@ use dl_theory::Theory;
 use std::alloc::Global;
 
 /// The theory that is generated from a number, with so many atoms. It is well formed, so no edit of it is refused.
-#[tactic(auto, using(crate::proofs::Fronts::generated_well_formed))]
 pub fn make_theory(alloc: Global, seed: u64, size: u64) -> Result<Theory, Memory>
     requires { size ≤ 4096 }
     ensures theory { IfOk result (λ theory. theory ≡ generated_theory seed size) }
