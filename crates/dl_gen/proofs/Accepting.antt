@@ -1,6 +1,6 @@
 -- What stands next in the lists of a well-formed theory is accepted by the theory of what stands before it.
-use Rattle.std.proofs.Common.{◌≡◌, ℕ, ◌<◌, ◌≤◌, List, [], ◌∷◌, length, map, take, get_or, refl, sym, ap, subst, ◌∙◌, length-take, arith}
-use Rattle.std.specs.Prelude.{All, Contains}
+use Rattle.std.proofs.Common.{◌≡◌, ℕ, ◌<◌, ◌≤◌, List, length, map, take, get_or, sym, ap, subst, ◌∙◌, arith}
+use Rattle.std.specs.Prelude.{Contains}
 use Rattle.std.proofs.lemmas.List.{length-map, length-take-le, take-map, get_or-take, get_or-map}
 use Rattle.std.proofs.lemmas.List.Elements.{All-contains, All-contains_itself, All-take}
 use Rattle.dl_base.specs.Paths.{IsDistinct}

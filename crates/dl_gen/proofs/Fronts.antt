@@ -1,11 +1,10 @@
 -- What is drawn for atoms up to one is a well-formed theory, with the labels of all rules up to one and pairs of these alone.
-use Rattle.std.proofs.Common.{◌≡◌, ◌≢◌, ℕ, zero, suc, ◌+◌, ◌*◌, ◌^◌, ◌<◌, ◌≤◌, ◌==◌, Bool, true, false, if◌then◌else◌, List, [], ◌∷◌, ◌++◌, length, map, fold, decimal, inl, inr, refl, sym, ap, subst, ◌∙◌, append_assoc, append-nil, length-append, eq-or-lt_of_le, arith}
+use Rattle.std.proofs.Common.{◌≡◌, ◌≢◌, ℕ, zero, suc, ◌+◌, ◌*◌, ◌^◌, ◌<◌, ◌≤◌, Bool, true, false, if◌then◌else◌, List, [], ◌∷◌, ◌++◌, length, fold, decimal, inl, inr, refl, sym, ap, subst, ◌∙◌, append_assoc, append-nil, length-append, eq-or-lt_of_le, arith}
 use Rattle.std.specs.Prelude.{All, Contains}
 use Rattle.std.proofs.lemmas.Fmt.{decimal_injective}
 use Rattle.std.proofs.lemmas.List.{map-append}
 use Rattle.std.proofs.lemmas.List.Sums.{fold_push}
 use Rattle.std.proofs.lemmas.List.Elements.{All-nil, All-push, All-weaker, All-contains, Contains-push, Contains-append_left}
-use Rattle.dl_base.specs.Paths.{IsPath}
 use Rattle.dl_base.proofs.Distinct.{distinct_nil}
 use Rattle.dl_base.proofs.PathLemmas.{path_climbs}
 use Rattle.dl_lit.specs.declared.literal.Literal.{Literal}
@@ -16,7 +15,7 @@ use Rattle.dl_theory.specs.Lists.{TheoryLists, no_lists, labels, IsAbove, IsWell
 use Rattle.dl_theory.specs.Pairs.{Closes}
 use Rattle.dl_theory.specs.Edits.{HasLabel, after_edit}
 use Rattle.dl_theory.proofs.WellFormed.{add_rule_keeps, add_fact_keeps, add_pair_keeps}
-use Rattle.dl_gen.specs.Generator.{Drawn, draw, draw_each, rule_label, literal_at, above, draw_rule, draw_rules, draw_facts, draw_pairs, draw_part, beside, draw_lists, generated_theory}
+use Rattle.dl_gen.specs.Generator.{draw_each, rule_label, literal_at, above, draw_rule, draw_rules, draw_facts, draw_pairs, draw_part, beside, draw_lists, generated_theory}
 
 -- names of numbers
 

@@ -1,4 +1,4 @@
-use Rattle.std.proofs.Common.{◌≡◌, List, [], length, map, map-id, refl, sym, ap, subst, ◌∙◌, rules}
+use Rattle.std.proofs.Common.{length, map-id, sym, ap, subst, ◌∙◌, rules}
 use Rattle.std.proofs.lemmas.Iterator.Consumers.{YieldsList-so_far, YieldsList-turn, YieldsList-end}
 use Rattle.std.proofs.lemmas.Iterator.Adapters.{YieldsList-from_vec}
 use Rattle.dl_theory.specs.declared.edit.Edit.TheVariants.{AddRule}
