@@ -13,7 +13,8 @@ use std::process::Abort;
 const SEED: u64 = 7;
 
 /// The theory with two atoms.
-const TWO: &str = ">> p1\nr0: => p0\nr1: -p0, -p1 ~> p0\nr2: p0, p0 => p0\nr3: p0 -> p1\nr4: -p1, p0 -> -p1\nr5: p1, -p1 => p1\nr0 > r1\nr4 > r3\n";
+const TWO: &str =
+    ">> p1\nr0: => p0\nr1: -p0, -p1 ~> p0\nr2: p0, p0 => p0\nr3: p0 -> p1\nr4: -p1, p0 -> -p1\nr5: p1, -p1 => p1\nr0 > r1\nr4 > r3\n";
 
 /// The calls behind it, each as if it had been made.
 const TWO_CALLS: &str = "0 | enrol | ok\n0 | drop r2 | ok\n0 | drop r2 | ok\n0 | publish | ok\n";
@@ -109,10 +110,16 @@ fn is_publication(call: &Call) -> bool {
 fn two_blocks_have_their_edits(rt: HostRuntime) {
     let calls = calls_of(&rt, rt.alloc(), 20);
     assert_eq!(rt; calls.len(), 22);
-    assert_eq!(rt; calls.iter().filter(|call| is_dropped_rule(call)).count(), 8);
+    assert_eq!(rt;
+        calls.iter().filter(|call| is_dropped_rule(call)).count(),
+        8
+    );
     assert_eq!(rt; calls.iter().filter(|call| is_added_rule(call)).count(), 2);
     assert_eq!(rt; calls.iter().filter(|call| is_added_fact(call)).count(), 4);
-    assert_eq!(rt; calls.iter().filter(|call| is_dropped_fact(call)).count(), 6);
+    assert_eq!(rt;
+        calls.iter().filter(|call| is_dropped_fact(call)).count(),
+        6
+    );
     drop(calls);
 }
 
