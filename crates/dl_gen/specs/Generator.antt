@@ -1,4 +1,4 @@
--- The theory and the calls that are generated from a number.
+-- The theory and the calls that are generated from a number. Draws are made in the order in which they stand here.
 use Rattle.std.specs.Prelude.{ℕ, zero, suc, ◌+◌, ◌-◌, ◌*◌, ◌/◌, ◌%◌, ◌^◌, ◌==◌, min, Bool, true, not, if◌then◌else◌, List, [], ◌∷◌, ◌++◌, fold, flat_map, None, decimal}
 use Rattle.dl_lit.specs.declared.literal.Literal.{Literal}
 use Rattle.dl_theory.specs.declared.rule.Kind.{Kind}
@@ -16,13 +16,13 @@ pub record Drawn (A : Type 0) : Type 0 where
   pub value : A
   pub state : ℕ
 
--- A draw leads from a state to the next one, and gives a number below m from there.
+-- a draw: the next state, and a number below m that it gives
 unfoldable pub draw : ℕ → ℕ → Drawn ℕ
 draw m x =
     let next = (x * 6364136223846793005 + 1442695040888963407) % 2 ^ 64 in
     record { value = (next / 2 ^ 33) % m; state = next }
 
--- what is drawn for the numbers 0, 1 and so on up to n, one after another
+-- what is drawn for each number below n, from 0 on, one after another
 abbrev pub draw_each : {A : Type 0} → (ℕ → ℕ → Drawn A) → ℕ → ℕ → Drawn (List A)
 draw_each one zero x = record { value = []; state = x }
 draw_each one (suc n) x =
@@ -58,13 +58,13 @@ draw_literal size i x =
     let sign = draw 2 j.state in
     record { value = literal_at (block_begin i + j.value) (not (sign.value == 0)); state = sign.state }
 
--- up to two of them
+-- a body of up to two of them
 unfoldable pub draw_body : ℕ → ℕ → ℕ → Drawn (List Literal)
 draw_body size i x =
     let count = draw 3 x in
     draw_each (λ _. draw_literal size i) count.value count.state
 
--- one rule in eight is strict, and one a defeater
+-- one number of eight makes a rule strict, and one a defeater
 abbrev pub kind_of : ℕ → Kind
 kind_of n = if n == 0 then Strict else (if n == 1 then Defeater else Defeasible)
 
@@ -92,7 +92,7 @@ draw_rules size i x =
     let third = draw_rule size (rule_label (3 * i + 2)) i second.state in
     record { value = first.value ∷ second.value ∷ third.value ∷ []; state = third.state }
 
--- one atom in eight is a fact
+-- one number of eight makes atom i a fact
 unfoldable pub draw_facts : ℕ → ℕ → Drawn (List Literal)
 draw_facts i x =
     let chance = draw 8 x in
@@ -135,7 +135,7 @@ draw_lists size x =
 abbrev pub generated_theory : ℕ → ℕ → TheoryLists
 generated_theory seed size = (draw_lists size seed).value
 
--- an edit of each of the four kinds, that with number k
+-- an edit of each of the four kinds; k is its number
 abbrev pub draw_dropped_rule : ℕ → ℕ → Drawn edit.Edit
 draw_dropped_rule size x = let j = draw (3 * size) x in record { value = DropRule (rule_label j.value); state = j.state }
 

@@ -5,8 +5,9 @@ ghost use Rattle.std.specs.Prelude.{◌≤◌};
 use crate::texts::sink;
 use dl_calls::{Call, Entry, Reply, write_entry};
 use dl_gen::{make_calls, make_theory};
-use dl_print::write_theory;
-use dl_theory::{Edit, Kind, Rule, Theory};
+use dl_io::{Failed, MemorySink};
+use dl_print::{write_edit, write_pair, write_rule, write_theory};
+use dl_theory::{Edit, Kind, Pair, Rule, Theory};
 use std::alloc::Global;
 use std::process::Abort;
 
@@ -31,11 +32,36 @@ fn calls_of(rt: &impl Abort, alloc: Global, size: u64) -> Vec<Call>
     make_calls(alloc, SEED, size).expect(rt, "room")
 }
 
+fn expect_written(rt: &impl Abort, written: &MemorySink, wrote: Result<(), Failed>, text: &str) {
+    assert!(rt; wrote.is_ok());
+    assert!(rt; written.bytes() == text.as_bytes());
+}
+
 fn expect_theory(rt: &impl Abort, alloc: Global, theory: &Theory, text: &str) {
     let mut written = sink(alloc);
     let wrote = write_theory(&mut written, theory);
-    assert!(rt; wrote.is_ok());
-    assert!(rt; written.bytes() == text.as_bytes());
+    expect_written(rt, &written, wrote, text);
+}
+
+fn expect_rule(rt: &impl Abort, alloc: Global, rule: &Rule, text: &str) {
+    let mut written = sink(alloc);
+    let wrote = write_rule(&mut written, rule);
+    expect_written(rt, &written, wrote, text);
+}
+
+fn expect_pair(rt: &impl Abort, alloc: Global, pair: &Pair, text: &str) {
+    let mut written = sink(alloc);
+    let wrote = write_pair(&mut written, pair);
+    expect_written(rt, &written, wrote, text);
+}
+
+fn expect_edit(rt: &impl Abort, alloc: Global, call: &Call, text: &str) {
+    let mut written = sink(alloc);
+    let wrote = match call {
+        Call::Edit(edit) => write_edit(&mut written, edit),
+        _ => panic!(rt; "no edit"),
+    };
+    expect_written(rt, &written, wrote, text);
 }
 
 /// Compares calls by the lines that a journal would have for them.
@@ -77,12 +103,17 @@ fn of_kind(rules: &[Rule], kind: Kind) -> usize {
 
 #[test]
 fn two_blocks_have_their_rules(rt: HostRuntime) {
-    let theory = theory_of(&rt, rt.alloc(), 20);
+    let alloc = rt.alloc();
+    let theory = theory_of(&rt, alloc, 20);
     assert_eq!(rt; theory.facts_len(), 3);
     assert_eq!(rt; theory.rules_len(), 60);
     assert_eq!(rt; theory.pairs_len(), 28);
     assert_eq!(rt; of_kind(theory.rules(), Kind::Strict), 11);
     assert_eq!(rt; of_kind(theory.rules(), Kind::Defeater), 5);
+    let last = theory.rule(59).expect(&rt, "a rule");
+    expect_rule(&rt, alloc, last, "r59: -p19, p17 -> -p19");
+    let last = theory.pair(27).expect(&rt, "a pair");
+    expect_pair(&rt, alloc, last, "r58 > r57");
     drop(theory);
 }
 
@@ -108,7 +139,8 @@ fn is_publication(call: &Call) -> bool {
 
 #[test]
 fn two_blocks_have_their_edits(rt: HostRuntime) {
-    let calls = calls_of(&rt, rt.alloc(), 20);
+    let alloc = rt.alloc();
+    let calls = calls_of(&rt, alloc, 20);
     assert_eq!(rt; calls.len(), 22);
     assert_eq!(rt;
         calls.iter().filter(|call| is_dropped_rule(call)).count(),
@@ -120,13 +152,27 @@ fn two_blocks_have_their_edits(rt: HostRuntime) {
         calls.iter().filter(|call| is_dropped_fact(call)).count(),
         6
     );
+    let last = calls.get(20).expect(&rt, "an edit");
+    expect_edit(&rt, alloc, last, "add n19: => -p1");
     drop(calls);
 }
 
 #[test]
-fn sixty_four_edits_have_two_publications(rt: HostRuntime) {
-    let calls = calls_of(&rt, rt.alloc(), 64);
-    assert_eq!(rt; calls.len(), 67);
-    assert_eq!(rt; calls.iter().filter(|call| is_publication(call)).count(), 2);
+fn the_largest_has_its_lists(rt: HostRuntime) {
+    let theory = theory_of(&rt, rt.alloc(), 4096);
+    assert_eq!(rt; theory.facts_len(), 503);
+    assert_eq!(rt; theory.rules_len(), 12288);
+    assert_eq!(rt; theory.pairs_len(), 6113);
+    drop(theory);
+}
+
+#[test]
+fn the_largest_has_sixty_five_publications(rt: HostRuntime) {
+    let calls = calls_of(&rt, rt.alloc(), 4096);
+    assert_eq!(rt; calls.len(), 4162);
+    assert_eq!(rt;
+        calls.iter().filter(|call| is_publication(call)).count(),
+        65
+    );
     drop(calls);
 }
