@@ -111,7 +111,7 @@ fn two_blocks_have_their_rules(rt: HostRuntime) {
     assert_eq!(rt; of_kind(theory.rules(), Kind::Strict), 11);
     assert_eq!(rt; of_kind(theory.rules(), Kind::Defeater), 5);
     let last = theory.rule(59).expect(&rt, "a rule");
-    expect_rule(&rt, alloc, last, "r59: -p19, p17 -> -p19");
+    expect_rule(&rt, alloc, last, "r59: -p19, p17 -> p19");
     let last = theory.pair(27).expect(&rt, "a pair");
     expect_pair(&rt, alloc, last, "r58 > r57");
     drop(theory);
