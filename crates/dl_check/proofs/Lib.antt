@@ -8,3 +8,4 @@ pub mod Walking
 pub mod Answered
 pub mod CertificateLines
 pub mod FirstFlaws
+pub mod Accepting

@@ -5,5 +5,6 @@ pub mod Bands
 pub mod Supports
 pub mod Checking
 pub mod Flaws
+pub mod Accepting
 pub mod Headings
 pub mod Certificates

@@ -9,6 +9,8 @@
 //! touches: the rules for its literal and for its complement, their bodies, and the labels that are superior to theirs.
 #![tactic(auto)]
 
+mod accepted;
+mod answer;
 mod band;
 mod certificate;
 mod checker;
@@ -17,6 +19,7 @@ mod flaw;
 mod groups;
 mod walk;
 
+pub use accepted::Accepted;
 pub use certificate::read_certificate;
 pub use checker::Checker;
 pub use flaw::{CertStop, CheckStop, Flaw};
