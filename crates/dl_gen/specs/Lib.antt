@@ -1,3 +1,5 @@
 pub mod Generator
 pub mod Drawing
 pub mod Kept
+pub mod Survey
+pub mod Answers

@@ -1,4 +1,4 @@
-//! Tests of what runs in threads: the turnstile, jobs that are done at once, and the desk.
+//! Tests of what runs in threads: the turnstile, jobs that are done at once, the desk, and surveys of editions.
 //!
 //! They are apart from what they test, since a crate with tests is proved twice, with them and without.
 #![tactic(auto)]
@@ -7,5 +7,7 @@
 mod desks;
 #[cfg(test)]
 mod jobs;
+#[cfg(test)]
+mod surveys;
 #[cfg(test)]
 mod turns;

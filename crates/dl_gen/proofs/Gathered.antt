@@ -1,0 +1,77 @@
+-- Accepted answers as conclusions.
+use Rattle.std.proofs.Common.{◌≡◌, List, [], ◌∷◌, map, Ok, Err, Global, ap, sym, subst, refl}
+use Rattle.std.specs.Prelude.{All, Contains, IfOk, MatchResult, Result, Vec}
+use Rattle.std.specs.List.{AllZip}
+use Rattle.std.proofs.lemmas.List.Elements.{All-nil, All-cons}
+use Rattle.dl_base.specs.declared.memory.Memory.{Memory}
+use Rattle.dl_lit.specs.declared.literal.Literal.{Literal}
+use Rattle.dl_lit.specs.declared.literal.Family.{Family}
+use Rattle.dl_theory.specs.Lists.{TheoryLists}
+use Rattle.dl_theory.specs.Listings.{AreLiterals}
+use Rattle.dl_theory.specs.Verdicts.{IsVerdict}
+use Rattle.dl_conclusions.specs.declared.conclusion.Conclusion.{Conclusion}
+use Rattle.dl_conclusions.specs.Conclusions.{AreConclusions}
+use Rattle.dl_check.specs.declared.accepted.Accepted.{Accepted}
+use Rattle.dl_gen.specs.Survey.{accepted_in}
+use Rattle.dl_gen.specs.Answers.{IsAnswer, AreAnswers, verdict_of}
+
+abbrev pub conclusion_of : Accepted → Conclusion
+conclusion_of a = record { literal = a.literal; verdict = a.verdict }
+
+abbrev pub conclusions_of : List Accepted → List Conclusion
+conclusions_of answers = map conclusion_of answers
+
+pub verdicts_of : (answers : List Accepted) → map verdict_of answers ≡ map (λ c. c.verdict) (conclusions_of answers)
+verdicts_of [] = refl
+verdicts_of (a ∷ answers) = ap (λ l. a.verdict ∷ l) (verdicts_of answers)
+
+module _ (T : TheoryLists) (f : Family) where
+  all_there : (cs : List Conclusion) (answers : List Accepted) → AllZip (λ c (r : Result Accepted Memory). IfOk r (IsAnswer T f c.literal)) cs (map (λ a. Ok a) answers)
+      → AreAnswers T f (map (λ c. c.literal) cs) answers
+  all_there [] [] h = tt
+  all_there [] (a ∷ answers) h = absurd h
+  all_there (c ∷ cs) [] h = absurd h
+  all_there (c ∷ cs) (a ∷ answers) h = (h.0, all_there cs answers h.1)
+
+  -- where each answer was there
+  pub gathered : (cs : List Conclusion) (rs : List (Result Accepted Memory)) (answers : List Accepted) → rs ≡ map (λ a. Ok a) answers
+      → AllZip (λ c r. IfOk r (IsAnswer T f c.literal)) cs rs → AreAnswers T f (map (λ c. c.literal) cs) answers
+  gathered cs rs answers same h =
+      all_there cs answers (subst (λ (l : List (Result Accepted Memory)). AllZip (λ c r. IfOk r (IsAnswer T f c.literal)) cs l) same h)
+
+  -- and they were collected
+  pub all_gathered : (cs : List Conclusion) (rs : List (Result Accepted Memory)) (r : Result (Vec Accepted Global) Memory)
+      → AllZip (λ c r. IfOk r (IsAnswer T f c.literal)) cs rs
+      → MatchResult r (λ v. (answers : List Accepted) × (rs ≡ map Ok answers) × (v.items ≡ answers)) (λ e. Contains rs (Err e))
+      → IfOk r (λ v. AreAnswers T f (map (λ c. c.literal) cs) v.items)
+  all_gathered cs rs (Ok v) h m = subst (AreAnswers T f (map (λ c. c.literal) cs)) (sym m.2) (gathered cs rs m.0 m.1 h)
+  all_gathered cs rs (Err e) h m = tt
+
+  answers_listed : (qs : List Literal) (answers : List Accepted) → AreAnswers T f qs answers → map (λ c. c.literal) (conclusions_of answers) ≡ qs
+  answers_listed [] [] h = refl
+  answers_listed [] (a ∷ answers) h = absurd h
+  answers_listed (q ∷ qs) [] h = absurd h
+  answers_listed (q ∷ qs) (a ∷ answers) h = λ i. h.0.literal i ∷ answers_listed qs answers h.1 i
+
+  answers_right : (qs : List Literal) (answers : List Accepted) → AreAnswers T f qs answers → All (λ c. IsVerdict T f c.literal c.verdict) (conclusions_of answers)
+  answers_right [] [] h = All-nil (λ c. IsVerdict T f c.literal c.verdict)
+  answers_right [] (a ∷ answers) h = absurd h
+  answers_right (q ∷ qs) [] h = absurd h
+  answers_right (q ∷ qs) (a ∷ answers) h =
+      All-cons (λ c. IsVerdict T f c.literal c.verdict) (conclusion_of a) (conclusions_of answers)
+      (subst (λ (p : Literal). IsVerdict T f p a.verdict) (sym h.0.literal) h.0.right) (answers_right qs answers h.1)
+
+  -- they are the conclusions in the family
+  pub answers_conclude : (qs : List Literal) (answers : List Accepted) → AreLiterals T qs → AreAnswers T f qs answers → AreConclusions T f (conclusions_of answers)
+  answers_conclude qs answers listed h = record {
+    listed = subst (AreLiterals T) (sym (answers_listed qs answers h)) listed;
+    right = answers_right qs answers h;
+  }
+
+  -- and the conclusions are what was accepted
+  pub answers_again : (qs : List Literal) (answers : List Accepted) → AreAnswers T f qs answers → answers ≡ map (accepted_in f) (conclusions_of answers)
+  answers_again [] [] h = refl
+  answers_again [] (a ∷ answers) h = absurd h
+  answers_again (q ∷ qs) [] h = absurd h
+  answers_again (q ∷ qs) (a ∷ answers) h =
+      λ i. record { family = h.0.family i; literal = a.literal; verdict = a.verdict } ∷ answers_again qs answers h.1 i

@@ -1,0 +1,87 @@
+//! How many answers have which verdict.
+
+use dl_base::Memory;
+use dl_check::Accepted;
+use dl_theory::Verdict;
+
+/// So many literals are proved, refuted, and neither.
+#[derive(Clone, Copy, Debug, PartialEq, Eq)]
+pub struct Counts {
+    pub proved: u64,
+    pub refuted: u64,
+    pub neither: u64,
+}
+
+/// What a theory says in each family, counted, and the accepted answers that were counted: first those in definite, then in blocking, in
+/// propagating and in support, each in the order of the literals.
+pub struct Survey {
+    pub definite: Counts,
+    pub blocking: Counts,
+    pub propagating: Counts,
+    pub support: Counts,
+    pub checked: Vec<Accepted>,
+}
+
+impl Drop for Survey {
+    fn drop(self) {
+        let Survey {
+            definite: _,
+            blocking: _,
+            propagating: _,
+            support: _,
+            checked: _,
+        } = self;
+    }
+}
+
+impl Counts {
+    ghost use Rattle.std.specs.Prelude.{◌≡◌, map};
+    ghost use Rattle.dl_gen.specs.Survey.{counts_of};
+    ghost use Rattle.dl_gen.specs.Answers.{verdict_of};
+
+    /// The counts of the verdicts that were accepted.
+    pub(crate) fn of(answers: &[Accepted]) -> Counts
+        ensures { result ≡ counts_of (map verdict_of answers.now) }
+    {
+        let mut counts = Counts {
+            proved: 0,
+            refuted: 0,
+            neither: 0,
+        };
+        for answer in answers {
+            match answer.verdict() {
+                Verdict::Proved => counts.proved += 1,
+                Verdict::Refuted => counts.refuted += 1,
+                Verdict::Neither => counts.neither += 1,
+            }
+        }
+        counts
+    }
+}
+
+impl Survey {
+    ghost use Rattle.std.specs.Prelude.{IfOk};
+    ghost use Rattle.dl_gen.specs.Answers.{IsSurveyOf};
+
+    /// The survey of accepted answers. `Memory` where there is none for their list.
+    pub(crate) fn of(
+        definite: Vec<Accepted>,
+        mut blocking: Vec<Accepted>,
+        mut propagating: Vec<Accepted>,
+        mut support: Vec<Accepted>,
+    ) -> Result<Survey, Memory>
+        ensures { IfOk result (IsSurveyOf definite.items blocking.items propagating.items support.items) }
+    {
+        let mut survey = Survey {
+            definite: Counts::of(definite.as_slice()),
+            blocking: Counts::of(blocking.as_slice()),
+            propagating: Counts::of(propagating.as_slice()),
+            support: Counts::of(support.as_slice()),
+            checked: definite,
+        };
+        survey.checked.append(&mut blocking)?;
+        survey.checked.append(&mut propagating)?;
+        survey.checked.append(&mut support)?;
+        Ok(survey)
+    }
+}
