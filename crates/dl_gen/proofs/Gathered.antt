@@ -1,5 +1,5 @@
 -- Accepted answers as conclusions.
-use Rattle.std.proofs.Common.{◌≡◌, List, [], ◌∷◌, map, Ok, Err, Global, ap, sym, subst, refl}
+use Rattle.std.proofs.Common.{◌≡◌, suc, List, [], ◌∷◌, map, length, Ok, Err, Global, ap, sym, subst, refl}
 use Rattle.std.specs.Prelude.{All, Contains, IfOk, MatchResult, Result, Vec}
 use Rattle.std.specs.List.{AllZip}
 use Rattle.std.proofs.lemmas.List.Elements.{All-nil, All-cons}
@@ -47,11 +47,17 @@ module _ (T : TheoryLists) (f : Family) where
   all_gathered cs rs (Ok v) h m = subst (AreAnswers T f (map (λ c. c.literal) cs)) (sym m.2) (gathered cs rs m.0 m.1 h)
   all_gathered cs rs (Err e) h m = tt
 
-  answers_listed : (qs : List Literal) (answers : List Accepted) → AreAnswers T f qs answers → map (λ c. c.literal) (conclusions_of answers) ≡ qs
+  pub answers_listed : (qs : List Literal) (answers : List Accepted) → AreAnswers T f qs answers → map (λ c. c.literal) (conclusions_of answers) ≡ qs
   answers_listed [] [] h = refl
   answers_listed [] (a ∷ answers) h = absurd h
   answers_listed (q ∷ qs) [] h = absurd h
   answers_listed (q ∷ qs) (a ∷ answers) h = λ i. h.0.literal i ∷ answers_listed qs answers h.1 i
+
+  pub answers_long : (qs : List Literal) (answers : List Accepted) → AreAnswers T f qs answers → length answers ≡ length qs
+  answers_long [] [] h = refl
+  answers_long [] (a ∷ answers) h = absurd h
+  answers_long (q ∷ qs) [] h = absurd h
+  answers_long (q ∷ qs) (a ∷ answers) h = ap suc (answers_long qs answers h.1)
 
   answers_right : (qs : List Literal) (answers : List Accepted) → AreAnswers T f qs answers → All (λ c. IsVerdict T f c.literal c.verdict) (conclusions_of answers)
   answers_right [] [] h = All-nil (λ c. IsVerdict T f c.literal c.verdict)

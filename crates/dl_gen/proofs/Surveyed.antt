@@ -1,5 +1,6 @@
 -- The answers in each family make a survey.
-use Rattle.std.proofs.Common.{◌≡◌, List, ◌++◌, map, ap, ◌∙◌, arith}
+use Rattle.std.proofs.Common.{◌≡◌, ◌*◌, List, ◌++◌, map, length, ap, ◌∙◌, arith}
+use Rattle.std.proofs.lemmas.List.{length-append}
 use Rattle.dl_lit.specs.declared.literal.Literal.{Literal}
 use Rattle.dl_lit.specs.declared.literal.Family.{Family}
 use Rattle.dl_lit.specs.declared.literal.Family.TheVariants.{Definite, Blocking, Propagating, Support}
@@ -11,7 +12,7 @@ use Rattle.dl_gen.specs.declared.counts.Counts.{Counts}
 use Rattle.dl_gen.specs.declared.counts.Survey.{Survey}
 use Rattle.dl_gen.specs.Survey.{counts_of, counts_in, IsSurvey, AreNested}
 use Rattle.dl_gen.specs.Answers.{AreAnswers, IsSurveyOf}
-use Rattle.dl_gen.proofs.Gathered.{conclusions_of, verdicts_of, answers_conclude, answers_again}
+use Rattle.dl_gen.proofs.Gathered.{conclusions_of, verdicts_of, answers_listed, answers_long, answers_conclude, answers_again}
 use Rattle.dl_gen.proofs.Nested.{proved_more, refuted_more}
 
 module _ (T : TheoryLists) (qs : List Literal) (definite blocking propagating support : List Accepted) (of_definite : AreAnswers T Definite qs definite)
@@ -35,14 +36,24 @@ module _ (T : TheoryLists) (qs : List Literal) (definite blocking propagating su
   counted Propagating = of.propagating_counts ∙ ap counts_of (verdicts_of propagating)
   counted Support = of.support_counts ∙ ap counts_of (verdicts_of support)
 
+  long : (f : Family) → length (answers f) ≡ length qs
+  long f = answers_long T f qs (answers f) (each f)
+
+  all_checked : length found.checked.items ≡ 4 * length qs
+  all_checked =
+      omega (arith, ap length of.checked, length-append (definite ++ blocking ++ propagating) support, length-append (definite ++ blocking) propagating, length-append definite blocking, long Definite, long Blocking, long Propagating, long Support)
+
   pub is_survey : AreLiterals T qs → IsSurvey T found
   is_survey listed = record {
+    literals = qs;
     conclusions = λ f. conclusions_of (answers f);
+    each = λ f. answers_listed T f qs (answers f) (each f);
     right = λ f. answers_conclude T f qs (answers f) listed (each f);
     counted = counted;
     checked = of.checked
         ∙ (λ i. answers_again T Definite qs definite of_definite i ++ answers_again T Blocking qs blocking of_blocking i
         ++ answers_again T Propagating qs propagating of_propagating i ++ answers_again T Support qs support of_support i);
+    all_checked = all_checked;
   }
 
   pub is_nested : IsInclusive T → AreNested found

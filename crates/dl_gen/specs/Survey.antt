@@ -1,5 +1,5 @@
 -- The survey of a theory: how many literals are proved, refuted and neither in each family, and which answers were checked.
-use Rattle.std.specs.Prelude.{◌≡◌, ◌≤◌, Bool, true, false, List, ◌++◌, map, count_by}
+use Rattle.std.specs.Prelude.{◌≡◌, ◌≤◌, ◌*◌, Bool, true, false, List, ◌++◌, map, length, count_by}
 use Rattle.dl_lit.specs.declared.literal.Literal.{Literal}
 use Rattle.dl_lit.specs.declared.literal.Family.{Family}
 use Rattle.dl_lit.specs.declared.literal.Family.TheVariants.{Definite, Blocking, Propagating, Support}
@@ -42,14 +42,17 @@ abbrev pub accepted_in : Family → Conclusion → Accepted
 accepted_in f c = record { family = f; literal = c.literal; verdict = c.verdict }
 
 -- In each family there are the conclusions of T. The counts are those of their verdicts, and what was checked is each of them: every
--- literal that T mentions, in every family, with its verdict.
+-- literal that T mentions, in every family, with its verdict. So it is four times as many as there are literals.
 pub record IsSurvey (T : TheoryLists) (s : Survey) : Type 0 where
+  pub literals : List Literal
   pub conclusions : Family → List Conclusion
+  pub each : (f : Family) → map (λ c. c.literal) (conclusions f) ≡ literals
   pub right : (f : Family) → AreConclusions T f (conclusions f)
   pub counted : (f : Family) → counts_in s f ≡ counts_of (map (λ c. c.verdict) (conclusions f))
   pub checked : s.checked.items ≡
       map (accepted_in Definite) (conclusions Definite) ++ map (accepted_in Blocking) (conclusions Blocking)
       ++ map (accepted_in Propagating) (conclusions Propagating) ++ map (accepted_in Support) (conclusions Support)
+  pub all_checked : length s.checked.items ≡ 4 * length literals
 
 -- each family, in the order of the inclusions, proves no fewer literals than the one before it, and refutes no more
 pub record AreNested (s : Survey) : Type 0 where
