@@ -224,6 +224,46 @@ fn a_full_list_of_facts_refuses_one_more(rt: HostRuntime) {
     assert!(rt; theory.facts_len() == 1_000_000);
 }
 
+/// The edit that this text is.
+fn edit(rt: &impl Abort, alloc: Global, text: &str) -> Edit {
+    read_edit(alloc, text.as_bytes()).expect(rt, "an edit")
+}
+
+/// A theory of the rules r0 to r100000, each above the next.
+fn long_chain(rt: &impl Abort, alloc: Global) -> Theory {
+    let mut theory = Theory::make(alloc);
+    for n in 0..100_001u32 {
+        let text = format!(in alloc; "add r{n}: => p").expect(rt, "a text");
+        assert!(rt; theory.apply_owned(edit(rt, alloc, text.as_str())).is_ok());
+    }
+    for n in 0..100_000u32 {
+        let text = format!(in alloc; "add r{n} > r{}", n + 1).expect(rt, "a text");
+        assert!(rt; theory.apply_owned(edit(rt, alloc, text.as_str())).is_ok());
+    }
+    theory
+}
+
+/// The labels are r0, r1 and so on.
+fn expect_labels(rt: &impl Abort, alloc: Global, labels: &[Name]) {
+    for (n, label) in labels.iter().enumerate() {
+        let text = format!(in alloc; "r{n}").expect(rt, "a text");
+        assert!(rt; label.bytes() == text.as_bytes());
+    }
+}
+
+#[test]
+fn a_cycle_of_many_rules_is_shown_whole(rt: HostRuntime) {
+    let alloc = rt.alloc();
+    let mut theory = long_chain(&rt, alloc);
+    match theory.apply(&edit(&rt, alloc, "add r100000 > r0")) {
+        Err(EditStop::Refused(EditRefusal::Cycle(path))) => {
+            assert!(rt; path.as_slice().len() == 100_001);
+            expect_labels(&rt, alloc, path.as_slice());
+        }
+        _ => assert!(rt; false),
+    }
+}
+
 #[test]
 fn several_pairs_stop_at_the_first_that_is_refused(rt: HostRuntime) {
     let alloc = rt.alloc();
