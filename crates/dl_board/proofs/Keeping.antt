@@ -1,5 +1,6 @@
 -- What a board keeps after one more entry.
 use Rattle.std.proofs.Common.{◌≡◌, ◌∙◌, ℕ, ◌+◌, ◌<◌, List, [], ◌∷◌, ◌++◌, length, refl, sym, ap, subst, arith}
+use Rattle.dl_lit.specs.declared.literal.Literal.{Literal}
 use Rattle.dl_theory.specs.declared.edit.Edit as edit
 use Rattle.dl_theory.specs.declared.edit.EditRefusal.{EditRefusal}
 use Rattle.dl_theory.specs.Lists.{TheoryLists}
@@ -17,9 +18,9 @@ use Rattle.dl_board.specs.Boards.{BoardLists}
 use Rattle.dl_board.specs.Kept.{numbered, IsKept}
 use Rattle.dl_board.proofs.Numbering.{numbered_length, numbered_push}
 
--- the board with one entry more and so many seats
-abbrev pub with_entry : BoardLists → Entry → ℕ → BoardLists
-with_entry B e count = record { start = B.start; history = B.history ++ e ∷ []; enrolled = count }
+-- the board with one entry more, so many seats and these names
+abbrev pub with_entry : BoardLists → Entry → ℕ → List Literal → BoardLists
+with_entry B e count names = record { start = B.start; history = B.history ++ e ∷ []; enrolled = count; names = names }
 
 abbrev pub entry : ℕ → Call → Reply → Entry
 entry seat asked reply = record { seat = seat; call = asked; reply = reply }
@@ -29,11 +30,11 @@ abbrev pub state : BoardLists → State
 state B = state_after B.start B.history
 
 -- a step keeps the board, where draft, editions and seats go with it
-keeps_step : (B : BoardLists) (draft new_draft : TheoryLists) (editions new_editions : List EditionLists) (total new_total count : ℕ) (e : Entry)
+keeps_step : (B : BoardLists) (draft new_draft : TheoryLists) (editions new_editions : List EditionLists) (total new_total count : ℕ) (names : List Literal) (e : Entry)
     → IsKept B draft editions total → IsStep (state B) e.seat e.call e.reply (after (state B) e) → new_draft ≡ (after (state B) e).draft
     → new_editions ≡ numbered 0 (after (state B) e).editions → count ≡ (after (state B) e).count → new_total ≡ count
-    → IsKept (with_entry B e count) new_draft new_editions new_total
-keeps_step B draft new_draft editions new_editions total new_total count e kept step d es n t =
+    → IsKept (with_entry B e count names) new_draft new_editions new_total
+keeps_step B draft new_draft editions new_editions total new_total count names e kept step d es n t =
     let more = sym (state_more B.start B.history e) in
     record {
       legal = legal_more B.start B.history e kept.legal step;
@@ -54,33 +55,33 @@ edition_count B draft editions total kept = ap (λ (l : List EditionLists). leng
 
 module _ (B : BoardLists) (draft : TheoryLists) (editions : List EditionLists) (total : ℕ) (kept : IsKept B draft editions total) where
   pub keeps_enrolled : (new_total count : ℕ) → count ≡ B.enrolled + 1 → new_total ≡ count
-      → IsKept (with_entry B (entry B.enrolled Enrol (Enrolled B.enrolled)) count) draft editions new_total
+      → IsKept (with_entry B (entry B.enrolled Enrol (Enrolled B.enrolled)) count B.names) draft editions new_total
   keeps_enrolled new_total count n t =
-      keeps_step B draft draft editions editions total new_total count (entry B.enrolled Enrol (Enrolled B.enrolled)) kept
+      keeps_step B draft draft editions editions total new_total count B.names (entry B.enrolled Enrol (Enrolled B.enrolled)) kept
       (kept.count_is, ap (λ (k : ℕ). Enrolled k) kept.count_is, refl) kept.draft_is kept.editions_are (n ∙ ap (λ (k : ℕ). k + 1) kept.count_is) t
 
   module _ (seat : ℕ) (enrolled : seat < B.enrolled) where
     here : seat < (state B).count
     here = subst (λ (n : ℕ). seat < n) kept.count_is enrolled
 
-    pub keeps_edit : (new_draft : TheoryLists) (e : edit.Edit) → IsAccepted draft e → new_draft ≡ after_edit draft e
-        → IsKept (with_entry B (entry seat (Edit e) Edited) B.enrolled) new_draft editions total
-    keeps_edit new_draft e accepted changed =
-        keeps_step B draft new_draft editions editions total total B.enrolled (entry seat (Edit e) Edited) kept
+    pub keeps_edit : (new_draft : TheoryLists) (names : List Literal) (e : edit.Edit) → IsAccepted draft e → new_draft ≡ after_edit draft e
+        → IsKept (with_entry B (entry seat (Edit e) Edited) B.enrolled names) new_draft editions total
+    keeps_edit new_draft names e accepted changed =
+        keeps_step B draft new_draft editions editions total total B.enrolled names (entry seat (Edit e) Edited) kept
         (here, subst (λ (T : TheoryLists). IsAccepted T e) kept.draft_is accepted, refl) (changed ∙ ap (λ (T : TheoryLists). after_edit T e) kept.draft_is)
         kept.editions_are kept.count_is kept.total_is
 
-    pub keeps_refusal : (new_draft : TheoryLists) (e : edit.Edit) (x : EditRefusal) → IsRefused draft e x → new_draft ≡ draft
-        → IsKept (with_entry B (entry seat (Edit e) (EditRefused x)) B.enrolled) new_draft editions total
-    keeps_refusal new_draft e x refused same =
-        keeps_step B draft new_draft editions editions total total B.enrolled (entry seat (Edit e) (EditRefused x)) kept
+    pub keeps_refusal : (new_draft : TheoryLists) (names : List Literal) (e : edit.Edit) (x : EditRefusal) → IsRefused draft e x → new_draft ≡ draft
+        → IsKept (with_entry B (entry seat (Edit e) (EditRefused x)) B.enrolled names) new_draft editions total
+    keeps_refusal new_draft names e x refused same =
+        keeps_step B draft new_draft editions editions total total B.enrolled names (entry seat (Edit e) (EditRefused x)) kept
         (here, subst (λ (T : TheoryLists). IsRefused T e x) kept.draft_is refused, refl) (same ∙ kept.draft_is) kept.editions_are kept.count_is kept.total_is
 
     pub keeps_publication : (E : EditionLists) (new_editions : List EditionLists) → E.number ≡ length editions → E.theory ≡ (state B).draft
-        → new_editions ≡ editions ++ E ∷ [] → IsKept (with_entry B (entry seat Publish (Edition (length editions))) B.enrolled) draft new_editions total
+        → new_editions ≡ editions ++ E ∷ [] → IsKept (with_entry B (entry seat Publish (Edition (length editions))) B.enrolled B.names) draft new_editions total
     keeps_publication E new_editions numbered_so is grown =
         let many = edition_count B draft editions total kept in
-        keeps_step B draft draft editions new_editions total total B.enrolled (entry seat Publish (Edition (length editions))) kept
+        keeps_step B draft draft editions new_editions total total B.enrolled B.names (entry seat Publish (Edition (length editions))) kept
         (here, ap (λ (n : ℕ). Edition n) many, refl) kept.draft_is
         (grown ∙ ap (λ (l : List EditionLists). l ++ E ∷ []) kept.editions_are
         ∙ ap (λ (n : ℕ). numbered 0 (state B).editions ++ record { number = n; theory = E.theory } ∷ []) (numbered_so ∙ many ∙ omega arith)
@@ -89,7 +90,7 @@ module _ (B : BoardLists) (draft : TheoryLists) (editions : List EditionLists) (
         kept.count_is kept.total_is
 
     pub keeps_hold : (n : ℕ) (reply : Reply) → reply ≡ held n (length (state B).editions)
-        → IsKept (with_entry B (entry seat (Hold n) reply) B.enrolled) draft editions total
+        → IsKept (with_entry B (entry seat (Hold n) reply) B.enrolled B.names) draft editions total
     keeps_hold n reply is =
-        keeps_step B draft draft editions editions total total B.enrolled (entry seat (Hold n) reply) kept (here, is, refl) kept.draft_is kept.editions_are
+        keeps_step B draft draft editions editions total total B.enrolled B.names (entry seat (Hold n) reply) kept (here, is, refl) kept.draft_is kept.editions_are
         kept.count_is kept.total_is

@@ -47,9 +47,9 @@ impl<L: Ledger> Model for Board<L> {
 
     ghost use Rattle.dl_board.specs.Kept.{IsKept};
 
-    ghost view = { λ b. record { start = b.start; history = b.entries.items; enrolled = b.count } };
+    ghost view = { λ b. record { start = b.start; history = b.entries.items; enrolled = b.count; names = b.draft.names } };
 
-    ghost invariant = { λ b. IsKept (record { start = b.start; history = b.entries.items; enrolled = b.count }) b.draft.theory b.editions.items b.book.total };
+    ghost invariant = { λ b. IsKept (record { start = b.start; history = b.entries.items; enrolled = b.count; names = b.draft.names }) b.draft.theory b.editions.items b.book.total };
 }
 
 /// A turnstile sees what callers see.
@@ -77,7 +77,7 @@ impl<L: Ledger> Board<L> {
         book: Book<L>,
     ) -> Result<Board<L>, (Book<L>, Memory)>
         requires { book.total ≡ 0 }
-        ensures board { IfOk result (λ board. board ≡ opening_board theory.now) }
+        ensures board { IfOk result (λ board. board ≡ opening_board theory.now board.names) }
         ensures book { IfErr result (λ stop. stop.0 ≡ book) }
     {
         match opened(alloc, theory) {

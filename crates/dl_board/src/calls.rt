@@ -4,6 +4,8 @@ ghost use Rattle.std.specs.Prelude.{◌≡◌, ◌<◌, IfOk, OnErr, length};
 ghost use Rattle.dl_calls.specs.Histories.{IsLegal, state_after};
 ghost use Rattle.dl_board.specs.Boards.{IsAsBefore};
 ghost use Rattle.dl_board.specs.Turns.{IsTurn, IsEdit, IsHeldAnswer};
+ghost use Rattle.dl_theory.specs.declared.edit.Edit.{Edit};
+ghost use Rattle.dl_update.specs.Bound.{IsWithinCone};
 
 use crate::board::Board;
 use crate::turned::Turned;
@@ -17,7 +19,8 @@ use std::sync::ledger::Ledger;
 impl<L: Ledger> Board<L> {
     /// Makes the call of an enrolled seat, and adds it to the history with its reply. A refused edit and a hold of an edition
     /// that is not published are answers like any other. `Memory` where there is none for the answer or its entry; start,
-    /// history and seats are as before then. Only an edit makes steps.
+    /// history and seats are as before then. Only an edit makes steps: sixteen at most for each literal of its cone, and eight for each
+    /// that it is the first to name.
     pub fn turn<M: Ledger>(
         &mut self,
         seat: u64,
@@ -30,6 +33,7 @@ impl<L: Ledger> Board<L> {
         ensures legal { IsLegal self.new.start self.new.history }
         ensures kept { OnErr result (IsAsBefore self.old self.new) }
         ensures steps { (¬ IsEdit call) → steps.new ≡ steps.old }
+        ensures bound { (e : Edit) → call ≡ Call.Edit e → IsWithinCone (state_after self.old.start self.old.history).draft self.old.names e steps.old steps.new }
     {
         match call {
             Call::Enrol => unreachable!(),
@@ -49,6 +53,7 @@ impl<L: Ledger> Board<L> {
         ensures answered { IfOk result (IsTurn self.old self.new seat (Call.Edit edit)) }
         ensures legal { IsLegal self.new.start self.new.history }
         ensures kept { OnErr result (IsAsBefore self.old self.new) }
+        ensures bound { IsWithinCone (state_after self.old.start self.old.history).draft self.old.names edit steps.old steps.new }
     {
         self.entries.reserve(1)?;
         match self.draft.touch(&edit, steps) {

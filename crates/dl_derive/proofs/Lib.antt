@@ -1,4 +1,4 @@
-mod Gaining
+pub mod Gaining
 mod Resting
 mod Spread
 mod Gaps
@@ -8,7 +8,7 @@ mod Certified
 mod Fired
 mod Answered
 mod Wanting
-mod Parts
+pub mod Parts
 mod Fitting
 mod Cutting
 mod Copying

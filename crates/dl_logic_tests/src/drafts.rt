@@ -328,7 +328,13 @@ fn expect_mark(rt: &impl Abort, alloc: Global, net: &Graph<'_>, marks: &Marks, t
     assert!(rt; minus != tagged.plus, "another minus mark");
 }
 
-fn expect_marks(rt: &impl Abort, alloc: Global, net: &Graph<'_>, marks: &Marks, texts: &[&str]) {
+pub(crate) fn expect_marks(
+    rt: &impl Abort,
+    alloc: Global,
+    net: &Graph<'_>,
+    marks: &Marks,
+    texts: &[&str],
+) {
     for text in texts {
         expect_mark(rt, alloc, net, marks, text);
     }
@@ -370,7 +376,7 @@ fn each_family_is_marked(rt: HostRuntime) {
 }
 
 /// Whether an edit was refused since its label is there.
-fn is_label_there(touched: Result<(), EditStop>) -> bool {
+pub(crate) fn is_label_there(touched: Result<(), EditStop>) -> bool {
     matches!(touched, Err(EditStop::Refused(EditRefusal::LabelThere(_))))
 }
 

@@ -1,4 +1,4 @@
-//! Tests of what concludes, and of what keeps it: rooms, numbered theories, drafts, certificates and their checker, editions, journals,
+//! Tests of what concludes, and of what keeps it: rooms, numbered theories, drafts and what their edits cost, certificates and their checker, editions, journals,
 //! boards and what is generated. None of them needs threads.
 //!
 //! They are apart from what they test, since a crate with tests is proved twice, with them and without. Each file is about one subject.
@@ -11,6 +11,8 @@ mod boards;
 mod certificates;
 #[cfg(test)]
 mod checking;
+#[cfg(test)]
+mod costs;
 #[cfg(test)]
 mod drafts;
 #[cfg(test)]

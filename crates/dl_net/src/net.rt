@@ -8,6 +8,7 @@ ghost use Rattle.dl_net.specs.Named.{HasLiterals, HasFacts, line_in};
 ghost use Rattle.std.specs.Option.{option_copied};
 ghost use Rattle.dl_lit.specs.Literal.{literal_eq};
 ghost use Rattle.dl_theory.specs.Lists.{IsWellFormed};
+ghost use Rattle.dl_theory.specs.Edits.{HasLabel};
 ghost use Rattle.dl_theory.specs.Listings.{Mentions};
 
 use crate::graph::{Graph, Source};
@@ -17,7 +18,7 @@ use crate::load::index_of;
 use crate::number::mark_facts;
 use crate::staged::Staged;
 use dl_base::Memory;
-use dl_lit::Literal;
+use dl_lit::{Literal, Name};
 use dl_names::{PairedNames, WholePairs};
 use dl_rows::Table;
 use dl_rules::Index;
@@ -62,7 +63,7 @@ impl Model for Net {
 }
 
 impl Net {
-    ghost use Rattle.dl_net.specs.Numbers.{no_net, no_literal, literal_at, IsNumbered, number, number_of_other, is_fact, attackers_row, next, back};
+    ghost use Rattle.dl_net.specs.Numbers.{no_net, no_literal, literal_at, rule_at, IsNumbered, number, number_of_other, is_fact, attackers_row, next, back};
 
     /// The empty theory.
     pub fn make(alloc: Global) -> Net
@@ -185,6 +186,15 @@ impl Net {
         ensures { result ≡ is_fact self.now number }
     {
         self.graph().is_fact(number)
+    }
+
+    /// The place of the rule with a label; `None` exactly where no rule has it.
+    pub fn place(&self, label: &Name) -> Option<usize>
+        ensures within { IfSome result (λ at. at < length self.now.theory.rules) }
+        ensures there { IfSome result (λ at. (rule_at self.now at).label ≡ label.now) }
+        ensures absent { IfNone result (¬ HasLabel self.now.theory label.now) }
+    {
+        self.staged.rule_place(label)
     }
 
     pub fn facts_len(&self) -> usize

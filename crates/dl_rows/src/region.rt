@@ -1,10 +1,10 @@
 //! Regions: sets of literals by their numbers.
 
-ghost use Rattle.std.specs.Prelude.{◌≡◌, ℕ, ◌<◌, ◌/◌, [], ◌∷◌, ◌++◌, ◌↔◌, ◌==◌, IsTrue, IfOk, All, Contains, true, length, slice_get, if◌then◌else◌};
+ghost use Rattle.std.specs.Prelude.{◌≡◌, ℕ, ◌<◌, ◌≤◌, ◌/◌, [], ◌∷◌, ◌++◌, ◌↔◌, ◌==◌, IsTrue, IfOk, OnOk, OnErr, All, Contains, true, length, slice_get, if◌then◌else◌};
 ghost use Rattle.dl_rows.specs.Region.{has};
 
 use dl_base::Memory;
-use std::alloc::Global;
+use std::alloc::{AllocError, Global};
 use std::marker::Model;
 
 /// A set of numbers below a bound, in the order in which they came.
@@ -69,6 +69,24 @@ impl Region {
             words: Vec::new(alloc),
             members: Vec::new(alloc),
         }
+    }
+
+    /// Numbers below so many can be members from here on; room grows by doubling. `Memory` where there is none for that, or where the
+    /// bound takes more than 32 bits: nothing changes.
+    pub fn widen(&mut self, names: usize) -> Result<(), Memory>
+        requires { self.old.bound ≤ names }
+        ensures bound { OnOk result (self.new.bound ≡ names) }
+        ensures same { OnErr result (self.new.bound ≡ self.old.bound) }
+        ensures members { self.new.members ≡ self.old.members }
+    {
+        if names > u32::MAX as usize {
+            return Err(Memory);
+        }
+        lengthen(&mut self.words, names / 64 + 1)?;
+        self.members
+            .reserve(names.saturating_sub(self.members.len()))?;
+        self.bound = names;
+        Ok(())
     }
 
     /// Adds a number at the end, unless it is a member. Takes no memory.
@@ -152,6 +170,18 @@ fn set(words: &mut Vec<u64>, number: usize)
 {
     let word = words[number / 64] | (1u64 << (number % 64));
     words[number / 64] = word;
+}
+
+/// So many words at least, of which the new ones have no bit. `Memory` leaves the bits as they were.
+fn lengthen(words: &mut Vec<u64>, count: usize) -> Result<(), AllocError>
+    ensures enough { OnOk result (count ≤ length words.new.items) }
+    ensures longer { length words.old.items ≤ length words.new.items }
+    ensures bits { (n : ℕ) → has words.new.items n ≡ has words.old.items n }
+{
+    if count <= words.len() {
+        return Ok(());
+    }
+    words.resize(count, 0u64)
 }
 
 /// Clears the words of numbers.

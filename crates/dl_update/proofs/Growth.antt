@@ -21,14 +21,15 @@ use Rattle.dl_theory.specs.Marks.{IsRightAt, IsFamilyRight, AreRight}
 use Rattle.dl_theory.proofs.Steps.{is_coherent}
 use Rattle.dl_theory.proofs.Unmentioned.{refuted}
 use Rattle.dl_marks.specs.Marks.{Marking, places, marked}
-use Rattle.dl_net.specs.Named.{Grows}
+use Rattle.dl_net.specs.Edited.{edit_literals}
+use Rattle.dl_net.specs.Named.{IsNear, Grows}
 use Rattle.dl_net.specs.Numbers.{NetLists, IsNumbered, no_literal, number}
 use Rattle.dl_fill.specs.Before.{tag_of}
 use Rattle.dl_fill.specs.Filled.{stands}
 use Rattle.dl_update.specs.declared.families.Families.{Families}
 use Rattle.dl_update.specs.declared.families.Families.TheVariants.{All, One}
+use Rattle.dl_update.specs.Drafts.{GrowsBy}
 use Rattle.dl_update.specs.RightIn.{AreRightIn}
-use Rattle.dl_update.specs.Unmarked.{IsFreshPast}
 
 -- no two numbers stand for one literal
 pub names_distinct : (N : NetLists) → IsNumbered N → IsDistinct N.names
@@ -37,6 +38,10 @@ names_distinct N numbered i j d before within same =
     λ k lt. ap (number N) (get_or_default N.names k d no_literal lt) ∙ numbered.distinct k lt in
     let equal : i ≡ j = sym (at i (omega (arith, before, within))) ∙ ap (number N) same ∙ at j within in
     absurd (omega (arith, before, equal))
+
+-- names that grow are no fewer
+pub longer : (known names : List Literal) (e : Edit) → Grows (IsNear (edit_literals e)) known names → length known ≤ length names
+longer known names e grows = omega (arith, ap (λ (ls : List Literal). length ls) grows.is, length-append known grows.more)
 
 -- an edit adds one rule at most
 pub more_rules : (T : TheoryLists) (e : Edit) → length (after_edit T e).rules ≤ length T.rules + 1
@@ -51,12 +56,6 @@ more_rules T (DropPair p) = omega arith
 minus_only : (plus : Bool) → IsTrue (not plus) ↔ (plus ≡ false)
 minus_only true = (λ e. cc, λ e. cc)
 minus_only false = (λ e. refl, λ e. refl)
-
-not_plus : (plus b : Bool) → (IsTrue b ↔ (plus ≡ false)) → b ≡ not plus
-not_plus true true h = let e = h.0 refl in cc
-not_plus true false h = refl
-not_plus false true h = refl
-not_plus false false h = let e = h.1 refl in cc
 
 module _ (T : TheoryLists) where
   -- whether a mark is right where a name may stand
@@ -77,12 +76,6 @@ module _ (T : TheoryLists) where
     λ follows. absurd (is_coherent T (tagged true f q) follows (refuted T q (λ there. absent (inl there)) f)),
   )
   unmentioned q absent false f = (λ e. refuted T q (λ there. absent (inl there)) f, λ follows. refl)
-
-  -- past the names exactly the minus tags stand
-  pub right_past : (names : List Literal) (m : Marking) → AreRight T names (places m) (stands m) → IsFreshPast (length names) m
-  right_past names m right t n past within =
-      not_plus t.plus (marked m t n)
-      (subst (Right t.plus t.family (marked m t n)) (slice_get_past names n past) (right.right t.family t.plus n within))
 
   -- marks stay right where places come at the end
   pub right_longer : (names : List Literal) (old new : Marking) → AreRight T names (places old) (stands old) → places old ≤ places new
@@ -157,3 +150,11 @@ right_moved fs fs' T T' names names' old new families theory same_names len same
     subst (λ (gs : Families). AreRightIn gs T' names' new) (sym families)
     (subst (λ (U : TheoryLists). AreRightIn fs U names' new) (sym theory)
     (subst (λ (ls : List Literal). AreRightIn fs T ls new) (sym same_names) (right_same T fs names old new right len same)))
+
+-- marks that are right before an edit are so for the names of a net that has prepared it
+pub right_prepared : (T : TheoryLists) (N : NetLists) (known : List Literal) (e : Edit) (old new : Marking) → IsNumbered N
+    → Grows (IsNear (edit_literals e)) known N.names → N.theory ≡ T → places new ≡ places old → ((t : Tag) (n : ℕ) → marked new t n ≡ marked old t n)
+    → ((names : List Literal) → GrowsBy (edit_literals e) known names → AreRight T names (places old) (stands old))
+    → AreRight N.theory N.names (places new) (stands new)
+right_prepared T N known e old new numbered grows theory len same ready =
+    right_moved All All T N.theory N.names N.names old new refl theory refl len same (ready N.names (names_distinct N numbered, grows))

@@ -3,3 +3,5 @@ mod Growth
 mod News
 mod Room
 mod Whole
+mod Clearing
+mod Bounds

@@ -1,19 +1,17 @@
--- A net's region of all names, and the marks before and after a fill of it.
-use Rattle.std.proofs.Common.{◌≡◌, ℕ, ◌<◌, ◌≤◌, ◌+◌, ◌++◌, ◌∷◌, [], List, Bool, false, ◌⊎◌, length, inl, inr, sym, subst, arith, ◌∙◌}
-use Rattle.std.specs.Prelude.{All, Contains, IsTrue, MatchOption, slice_get, ◌↔◌}
+-- The region of all names, and marks before and after the fills of a region.
+use Rattle.std.proofs.Common.{◌≡◌, ℕ, ◌<◌, ◌+◌, ◌++◌, ◌∷◌, [], List, Bool, false, ◌⊎◌, inl, inr, sym, subst, arith, ◌∙◌}
+use Rattle.std.specs.Prelude.{Contains, IsTrue, MatchOption, slice_get, ◌↔◌}
 use Rattle.dl_lit.specs.Literal.{tagged}
 use Rattle.dl_theory.specs.Derivations.{Follows}
 use Rattle.std.proofs.lemmas.List.Elements.{All-weaker, Contains-append_left, Contains-push}
-use Rattle.std.proofs.lemmas.Bool.{cases_eq, cases_lt}
+use Rattle.std.proofs.lemmas.Bool.{cases_eq}
 use Rattle.dl_lit.specs.declared.literal.Family.{Family}
 use Rattle.dl_marks.specs.Marks.{Marking, marked, is_owned}
 use Rattle.dl_net.specs.Numbers.{NetLists}
-use Rattle.dl_net.specs.Region.{Numbers, IsRegion}
+use Rattle.dl_net.specs.Region.{Numbers}
 use Rattle.dl_fill.specs.Before.{tag_of}
 use Rattle.dl_fill.specs.Filled.{IsReady, IsFilled, IsRight}
 use Rattle.dl_fill.proofs.Written.{member_or_not}
-use Rattle.dl_update.specs.Unmarked.{IsUnmarked, IsWhole}
-use Rattle.dl_update.proofs.Growth.{past_right}
 
 -- a region that got a number has it, and what it had
 pub has_put : (old new : List ℕ) (number n : ℕ) → (Contains old number → new ≡ old) → ((¬ Contains old number) → new ≡ old ++ number ∷ [])
@@ -37,24 +35,6 @@ all_put old new number there fresh h n lt =
       | inl e ↦ inr e
       | inr apart ↦ inl (h n (omega (arith, lt, apart)))
     ])
-
-module _ (N : NetLists) (region : Numbers) (whole : IsWhole N region) (is_region : IsRegion region) where
-  below : All (λ n. n < length N.names) region.members
-  below = subst (λ (b : ℕ). All (λ n. n < b) region.members) whole.bound is_region.below
-
-  -- marks of which none stands at a name are ready for a fill of any family
-  pub unmarked_ready : (m : Marking) → IsUnmarked (length N.names) m → (Ours : Family → Type 0) → IsReady N Ours m region
-  unmarked_ready m u Ours = record {
-    bound = whole.bound;
-    room = u.writable.room;
-    owned = All-weaker (λ n. n < length N.names) (λ n. IsTrue (is_owned m n)) (λ n lt. u.writable.owned n lt) region.members below;
-    outside = λ f ours plus n lt outside. elim (cases_lt n (length N.names)) [
-      | inl named ↦ absurd (outside (whole.all n named))
-      | inr after ↦
-          let past : length N.names ≤ n = omega (arith, after) in past_right N.theory N.names m plus f n past (u.past (tag_of plus f) n past lt)
-    ];
-    absent = λ f ours plus. All-weaker (λ n. n < length N.names) (λ n. marked m (tag_of plus f) n ≡ false) (λ n lt. u.absent (tag_of plus f) n lt) region.members below;
-  }
 
 -- marks that are ready for a fill of some families are so after a fill of others
 pub still_ready : (N : NetLists) (region : Numbers) (old new : Marking) (Ours Theirs : Family → Type 0) → IsReady N Theirs old region

@@ -8,18 +8,20 @@ ghost use Rattle.dl_marks.specs.Marks.{IsFrozen};
 ghost use Rattle.dl_net.specs.Edited.{edit_literals};
 ghost use Rattle.dl_net.specs.Named.{IsNear, Grows};
 ghost use Rattle.dl_update.specs.declared.families.Families.TheVariants as families_of;
+ghost use Rattle.dl_update.specs.Bound.{IsWithinCone};
 ghost use Rattle.dl_update.specs.RightIn.{AreRightIn};
 
 use crate::draft_net::DraftNet;
 use crate::family_net::FamilyNet;
 use crate::places::grow;
 use crate::saturate::{fill_all, marks_in};
-use crate::unmarked::{clear_names, everywhere, own_names};
+use crate::unmarked::{clear_members, own_members};
 use crate::works::Works;
 use dl_base::Memory;
+use dl_cone::walk;
 use dl_lit::Family;
 use dl_marks::{Marks, Steps};
-use dl_net::{Net, NumberedTheory};
+use dl_net::{Net, NumberedTheory, Region};
 use dl_theory::{Edit, EditStop, Theory};
 use std::alloc::Global;
 use std::marker::Model;
@@ -33,6 +35,8 @@ pub struct Draft<N: DraftNet = Net> {
     marks: Marks,
     /// Room for the fills after an edit.
     works: Works,
+    /// The cone of the last edit. It is kept for its room, so that an edit clears and fills no more than its own cone.
+    cone: Region,
     /// Whether the net and the marks can be shared.
     frozen: bool,
 }
@@ -44,6 +48,7 @@ impl<N: DraftNet> Drop for Draft<N> {
             net: _,
             marks: _,
             works: _,
+            cone: _,
             frozen: _,
         } = self;
     }
@@ -77,6 +82,7 @@ impl<N: DraftNet> Draft<N> {
             net,
             marks,
             works,
+            cone: Region::none(alloc),
             frozen: false,
         })
     }
@@ -155,11 +161,15 @@ impl Draft<Net> {
     /// Makes an edit, or says why it is refused. After a refusal, and after `Memory`, the draft stands for the same theory;
     /// it may have numbered the literals of the edit and their complements. No mark of a literal that has a number changes
     /// before all memory is there.
+    ///
+    /// It costs the cone of the edit: sixteen steps for each literal whose conclusions the edit can change, and eight for each that it is
+    /// the first to name. No other mark is cleared or set.
     pub fn touch<L: Ledger>(&mut self, edit: &Edit, steps: &mut Steps<L>) -> Result<(), EditStop>
         ensures edited { IsEdited self.old.theory edit.now self.new.theory result }
         ensures names { Grows (IsNear (edit_literals edit.now)) self.old.names self.new.names }
         ensures families { self.new.families ≡ self.old.families }
         ensures frozen { self.new.frozen ≡ false }
+        ensures steps { IsWithinCone self.old.theory self.old.names edit.now steps.old steps.new }
         ensures coherent { IsCoherent self.new.theory }
         ensures consistent { IsConsistent self.new.theory }
         ensures inclusive { IsInclusive self.new.theory }
@@ -174,6 +184,7 @@ impl Draft<Net> {
         ensures names { Grows (IsNear (edit_literals edit.now)) self.old.names self.new.names }
         ensures families { self.new.families ≡ self.old.families }
         ensures frozen { self.new.frozen ≡ false }
+        ensures steps { IsWithinCone self.old.theory self.old.names edit.now steps.old steps.new }
     {
         self.frozen = false;
         let _known = self.net.names();
@@ -182,13 +193,16 @@ impl Draft<Net> {
         let prepared = self.net.prepare(edit);
         let names = self.net.names();
         let ready = prepared?;
-        let region = everywhere(self.alloc, names)?;
-        own_names(&mut self.marks, names)?;
+        self.cone.clear();
+        self.cone.widen(names)?;
+        // a literal of the cone has a rule that is there before the edit, or is named by the edit
+        walk(&self.net, edit, &mut self.cone);
+        own_members(&mut self.marks, &self.cone)?;
         self.net.commit(ready);
-        clear_names(&mut self.marks, names, steps);
+        clear_members(&mut self.marks, &self.cone, steps);
         fill_all(
             &self.net.graph(),
-            &region,
+            &self.cone,
             &mut self.works,
             &mut self.marks,
             steps,

@@ -1,6 +1,6 @@
 //! Places for the literals that an edit is the first to name.
 
-ghost use Rattle.std.specs.Prelude.{◌≡◌, ◌+◌, ◌<◌, ◌≤◌, ◌∷◌, [], List, ℕ, Contains, IfOk, OnOk, not};
+ghost use Rattle.std.specs.Prelude.{◌≡◌, ◌+◌, ◌-◌, ◌*◌, ◌<◌, ◌≤◌, ◌∷◌, [], List, ℕ, Contains, IfOk, OnOk, not};
 ghost use Rattle.dl_lit.specs.declared.literal.Literal.{Literal};
 ghost use Rattle.dl_lit.specs.declared.literal.Tag.{Tag};
 ghost use Rattle.dl_theory.specs.Marks.{AreRight};
@@ -8,6 +8,7 @@ ghost use Rattle.dl_marks.specs.Marks.{places, marked};
 ghost use Rattle.dl_fill.specs.Filled.{stands};
 ghost use Rattle.dl_net.specs.Edited.{edit_literals};
 ghost use Rattle.dl_net.specs.Named.{IsPaired, Grows};
+ghost use Rattle.dl_update.specs.Bound.{IsWithinNew};
 ghost use Rattle.dl_update.specs.Drafts.{IsNew, IsEnough, GrowsBy};
 
 use dl_base::Memory;
@@ -91,12 +92,13 @@ fn sum_of(first: usize, second: usize) -> Result<usize, Memory>
     }
 }
 
-/// So many places at least, of which the new ones have the minus tags. `Memory` leaves the marks as they were.
+/// So many places at least, of which the new ones have the minus tags, in eight steps for each. `Memory` leaves the marks as they were.
 fn lengthen<L: Ledger>(marks: &mut Marks, count: usize, steps: &mut Steps<L>) -> Result<(), Memory>
     ensures enough { OnOk result (count ≤ places marks.new) }
     ensures longer { places marks.old ≤ places marks.new }
     ensures kept { (t : Tag) (n : ℕ) → n < places marks.old → marked marks.new t n ≡ marked marks.old t n }
     ensures fresh { (t : Tag) (n : ℕ) → places marks.old ≤ n → n < places marks.new → marked marks.new t n ≡ not t.plus }
+    ensures steps { steps.new ≤ steps.old + 8 * (count - places marks.old) }
 {
     if count <= marks.len() {
         return Ok(());
@@ -118,6 +120,7 @@ pub fn grow<L: Ledger>(
     ensures right { AreRight net.now.theory net.now.names (places marks.new) (stands marks.new) }
     ensures ready { OnOk result ((names : List Literal) → GrowsBy (edit_literals edit.now) net.now.names names → AreRight net.now.theory names (places marks.new) (stands marks.new)) }
     ensures enough { IfOk result (IsEnough net.now.names (edit_literals edit.now)) }
+    ensures steps { IsWithinNew net.now.names edit.now steps.old steps.new }
 {
     let more = new_names(alloc, net, edit)?;
     let known = net.names();

@@ -1,6 +1,6 @@
 //! Marks of all that follows in a theory by numbers.
 
-ghost use Rattle.std.specs.Prelude.{◌≡◌, ◌≤◌, IfOk, OnOk, length};
+ghost use Rattle.std.specs.Prelude.{◌≡◌, ◌+◌, ◌*◌, ◌≤◌, IfOk, OnOk, length};
 ghost use Rattle.dl_lit.specs.declared.literal.Family.TheVariants as family;
 ghost use Rattle.dl_theory.specs.Marks.{AreRight};
 ghost use Rattle.dl_marks.specs.Marks.{places};
@@ -8,7 +8,7 @@ ghost use Rattle.dl_fill.specs.Filled.{IsReady, IsFilled, IsRight, stands};
 ghost use Rattle.dl_prop.specs.Propagation.{IsOfPair};
 ghost use Rattle.dl_update.specs.RightIn.{AreRightIn};
 ghost use Rattle.dl_update.specs.Room.{HasRoom};
-ghost use Rattle.dl_update.specs.Unmarked.{IsUnmarked, IsWhole};
+ghost use Rattle.dl_update.specs.Whole.{IsWhole};
 
 use crate::families::Families;
 use crate::unmarked::{everywhere, no_marks};
@@ -35,11 +35,9 @@ fn begun<L: Ledger>(
     ensures right { IfOk result (λ marks. IsRight net.now marks family.Definite) }
     ensures ready { IfOk result (λ marks. IsReady net.now (λ f. ¬ (f ≡ family.Definite)) marks region.now) }
 {
-    let names = net.names();
-    let _members = region.len();
-    let mut marks = no_marks(alloc, names, steps)?;
+    let mut marks = no_marks(alloc, net, region, steps)?;
     let mut work = DefiniteWork::make(alloc);
-    work.reserve(net.rules_len(), names)?;
+    work.reserve(net.rules_len(), net.names())?;
     fill_definite(net, &mut marks, region, &mut work, steps);
     Ok(marks)
 }
@@ -102,7 +100,8 @@ fn family_marks<L: Ledger>(
     Ok(marks)
 }
 
-/// Makes the marks of a graph right where none stands at its names. Takes no memory.
+/// Makes the marks of a graph right where they are so outside a region and none stands inside it. Takes no memory, and eight steps at
+/// most for each member.
 pub fn fill_all<L: Ledger>(
     net: &Graph<'_>,
     region: &Region,
@@ -111,11 +110,10 @@ pub fn fill_all<L: Ledger>(
     steps: &mut Steps<L>,
 )
     requires room { HasRoom (length net.now.theory.rules) (length net.now.names) works.old }
-    requires whole { IsWhole net.now region.now }
-    requires unmarked { IsUnmarked (length net.now.names) marks.old }
-    ensures { AreRight net.now.theory net.now.names (places marks.new) (stands marks.new) }
+    requires ready { IsReady net.now (λ _. Unit {0}) marks.old region.now }
+    ensures right { AreRight net.now.theory net.now.names (places marks.new) (stands marks.new) }
+    ensures steps { steps.new ≤ steps.old + 8 * length region.now.members }
 {
-    let _members = region.len();
     fill_definite(net, marks, region, &mut works.definite, steps);
     fill_block(net, marks, region, &mut works.blocking, steps);
     fill_prop(net, marks, region, &mut works.pair, steps);
@@ -133,7 +131,7 @@ fn all_marks<L: Ledger>(
 {
     let names = net.names();
     let region = everywhere(alloc, names)?;
-    let mut marks = no_marks(alloc, names, steps)?;
+    let mut marks = no_marks(alloc, net, &region, steps)?;
     works.reserve(net.rules_len(), names)?;
     fill_all(net, &region, works, &mut marks, steps);
     Ok(marks)

@@ -1,6 +1,7 @@
 use Rattle.std.proofs.Common.{arith}
 use Rattle.dl_net.specs.Edited.{edit_literals}
 use Rattle.dl_net.specs.Named.{IsNear}
+use Rattle.dl_update.proofs.Bounds.{new_steps}
 use Rattle.dl_update.proofs.Growth.{right_longer, right_grown}
 use Rattle.dl_update.proofs.News.{enough_names}
 use Rattle.dl_update.proofs.places.grow.Goals as goal
@@ -29,3 +30,15 @@ returns-clause-ready g c = λ names by.
     (omega (arith, few, c.in_ok-count.ensures, c.names-known.ensures.len, c.len.ensures.len, c.in_ok-lengthen.ensures.enough))
     (right_longer c.args.net.now.theory c.args.net.now.names c.args.marks.now c.lengthen.new.marks c.requires c.lengthen.ensures.longer
     c.lengthen.ensures.kept c.lengthen.ensures.fresh)
+
+pub returns-in_err-lengthen-clause-steps : goal.returns-in_err-lengthen-clause-steps
+returns-in_err-lengthen-clause-steps g c =
+    new_steps c.args.net.now.names c.args.edit.now c.in_ok-more.more.literals c.args.steps.now c.lengthen.new.steps c.len.ensures.distinct
+    c.in_ok-more.ensures.grown
+    (omega (arith, c.lengthen.ensures.steps, c.requires.room, c.in_ok-count.ensures, c.names-known.ensures.len, c.len.ensures.len))
+
+pub returns-clause-steps : goal.returns-clause-steps
+returns-clause-steps g c =
+    new_steps c.args.net.now.names c.args.edit.now c.in_ok-more.more.literals c.args.steps.now c.lengthen.new.steps c.len.ensures.distinct
+    c.in_ok-more.ensures.grown
+    (omega (arith, c.lengthen.ensures.steps, c.requires.room, c.in_ok-count.ensures, c.names-known.ensures.len, c.len.ensures.len))

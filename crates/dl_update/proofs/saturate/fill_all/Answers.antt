@@ -6,12 +6,12 @@ use Rattle.dl_marks.specs.Marks.{Marking}
 use Rattle.dl_fill.specs.Filled.{IsRight}
 use Rattle.dl_prop.specs.Propagation.{IsOfPair}
 use Rattle.dl_update.proofs.EachFamily.{each_family, apart_definite, apart_blocking}
-use Rattle.dl_update.proofs.Whole.{unmarked_ready, still_ready, still_right}
+use Rattle.dl_update.proofs.Whole.{still_ready, still_right, ready_fewer}
 use Rattle.dl_update.proofs.saturate.fill_all.Goals as goal
 
 pub fill_definite-requires-clause-ready : goal.fill_definite-requires-clause-ready
 fill_definite-requires-clause-ready g c =
-    unmarked_ready c.args.net.now c.args.region.now c.requires.whole c.len-members.ensures.region c.args.marks.now c.requires.unmarked (λ f. f ≡ Definite)
+    ready_fewer c.args.net.now c.args.region.now c.args.marks.now (λ f. f ≡ Definite) (λ _. Unit {0}) c.requires.ready (λ f ours. tt)
 
 pub fill_block-requires-clause-definite : goal.fill_block-requires-clause-definite
 fill_block-requires-clause-definite g c = c.fill_definite.ensures.filled.right Definite refl
@@ -19,7 +19,7 @@ fill_block-requires-clause-definite g c = c.fill_definite.ensures.filled.right D
 pub fill_block-requires-clause-ready : goal.fill_block-requires-clause-ready
 fill_block-requires-clause-ready g c =
     still_ready c.args.net.now c.args.region.now c.args.marks.now c.fill_definite.new.marks (λ f. f ≡ Definite) (λ f. f ≡ Blocking)
-    (unmarked_ready c.args.net.now c.args.region.now c.requires.whole c.len-members.ensures.region c.args.marks.now c.requires.unmarked (λ f. f ≡ Blocking))
+    (ready_fewer c.args.net.now c.args.region.now c.args.marks.now (λ f. f ≡ Blocking) (λ _. Unit {0}) c.requires.ready (λ f ours. tt))
     c.fill_definite.ensures.filled (λ f e d. absurd cc)
 
 pub fill_prop-requires-clause-definite : goal.fill_prop-requires-clause-definite
@@ -34,12 +34,12 @@ fill_prop-requires-clause-ready g c =
     let first : Marking = c.fill_definite.new.marks in
     still_ready N region first c.fill_block.new.marks (λ f. f ≡ Blocking) IsOfPair
     (still_ready N region c.args.marks.now first (λ f. f ≡ Definite) IsOfPair
-    (unmarked_ready N region c.requires.whole c.len-members.ensures.region c.args.marks.now c.requires.unmarked IsOfPair)
+    (ready_fewer N region c.args.marks.now IsOfPair (λ _. Unit {0}) c.requires.ready (λ f ours. tt))
     c.fill_definite.ensures.filled apart_definite)
     c.fill_block.ensures.filled apart_blocking
 
-pub returns : goal.returns
-returns g c =
+pub returns-clause-right : goal.returns-clause-right
+returns-clause-right g c =
     let N : NetLists = c.args.net.now in
     let one : Marking = c.fill_definite.new.marks in
     let two : Marking = c.fill_block.new.marks in
@@ -48,7 +48,7 @@ returns g c =
     let second = c.fill_block.ensures.filled in
     let third = c.fill_prop.ensures.filled in
     record {
-      room = omega (arith, c.requires.unmarked.writable.room, first.places, second.places, third.places);
+      room = omega (arith, c.requires.ready.room, first.places, second.places, third.places);
       right = each_family (IsRight N three)
           (still_right N two three IsOfPair Definite
           (still_right N one two (λ f. f ≡ Blocking) Definite (first.right Definite refl) second (λ e. absurd cc)) third

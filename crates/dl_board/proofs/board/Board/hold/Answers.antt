@@ -17,7 +17,7 @@ invariant_of-self-2 g c =
     let here = subst (λ (V : BoardLists). c.args.seat < V.enrolled) (sym c.self.view_is) c.requires.seat in
     let is : r ≡ held c.args.number (length (state_after i.start i.entries.items).editions) =
     subst (λ (V : BoardLists). r ≡ held c.args.number (length (state V).editions)) (sym c.self.view_is) (c.in_ok-reply.ensures ∙ c.in_ok-turned.ensures.reply) in
-    subst (λ (h : List Entry). IsKept (record { start = i.start; history = h; enrolled = i.count }) i.draft.theory i.editions.items i.book.total)
+    subst (λ (h : List Entry). IsKept (record { start = i.start; history = h; enrolled = i.count; names = i.draft.names }) i.draft.theory i.editions.items i.book.total)
     (sym c.in_ok-push.ensures.items) (keeps_hold _ _ _ _ c.self.invariant c.args.seat here c.args.number r is)
 
 pub returns-clause-legal : goal.returns-clause-legal
@@ -38,5 +38,5 @@ returns-clause-answered g c =
       enrolled = ap (λ (V : BoardLists). V.enrolled) c.self.view_is;
       hands_out = subst (λ (h : List Entry). HandsOut (state_after i.start h) c.in_ok-turned.turned) (sym pushed)
           (subst (λ (s : State). HandsOut s c.in_ok-turned.turned)
-          (sym (after_hold (record { start = i.start; history = i.entries.items; enrolled = i.count }) c.args.seat c.args.number r)) known);
+          (sym (after_hold (record { start = i.start; history = i.entries.items; enrolled = i.count; names = i.draft.names }) c.args.seat c.args.number r)) known);
     }

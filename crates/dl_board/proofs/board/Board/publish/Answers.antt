@@ -13,7 +13,7 @@ invariant_of-self-2 g c =
     let i = c.self-2.inside in
     let n = c.len-number.result in
     let E : EditionLists = c.in_ok-held.held in
-    let B : BoardLists = record { start = i.start; history = i.entries.items; enrolled = i.count } in
+    let B : BoardLists = record { start = i.start; history = i.entries.items; enrolled = i.count; names = i.draft.names } in
     let same : B ≡ c.args.self.now = c.self-2.view_is ∙ c.frozen.ensures.board in
     let here : c.args.seat < i.count = subst (λ (V : BoardLists). c.args.seat < V.enrolled) (sym same) c.requires.seat in
     let before : n ≡ length (state c.args.self.now).editions =
@@ -27,7 +27,7 @@ invariant_of-self-2 g c =
     c.push_reserved.ensures.items ∙ ap (λ (l : List EditionLists). l ++ E ∷ []) c.in_ok-reserve.ensures.items in
     let pushed : c.push.new.self.items ≡ i.entries.items ++ entry c.args.seat Publish (Edition (length i.editions.items)) ∷ [] =
     c.in_ok-push.ensures.items ∙ ap (λ (k : ℕ). i.entries.items ++ entry c.args.seat Publish (Edition k) ∷ []) many in
-    subst (λ (h : List Entry). IsKept (record { start = i.start; history = h; enrolled = i.count }) i.draft.theory c.push_reserved.new.self.items i.book.total)
+    subst (λ (h : List Entry). IsKept (record { start = i.start; history = h; enrolled = i.count; names = i.draft.names }) i.draft.theory c.push_reserved.new.self.items i.book.total)
     (sym pushed)
     (keeps_publication _ _ _ _ c.self-2.invariant c.args.seat here E c.push_reserved.new.self.items (c.in_ok-held.ensures.number ∙ many) draft grown)
 

@@ -1,0 +1,4 @@
+pub mod Raising
+pub mod Gathering
+pub mod Reached
+pub mod Outside

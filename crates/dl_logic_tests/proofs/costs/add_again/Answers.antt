@@ -1,0 +1,16 @@
+use Rattle.std.proofs.Common.{subst, sym}
+use Rattle.dl_theory.specs.declared.edit.Edit.{Edit}
+use Rattle.dl_theory.specs.Lists.{TheoryLists}
+use Rattle.dl_theory.specs.Listings.{Mentions}
+use Rattle.dl_update.specs.Bound.{IsWithinCone}
+use Rattle.dl_logic_tests.specs.Costs.{two_rules, rule_again}
+use Rattle.dl_logic_tests.proofs.Bare.{none_for_refusal}
+use Rattle.dl_logic_tests.proofs.costs.add_again.Goals as goal
+
+pub returns : goal.returns
+returns g c = λ theory edit.
+    none_for_refusal c.args.draft.now.names c.args.steps.now c.touch_known.new.steps
+    (λ q h. c.touch_known.ensures.mentioned q (subst (λ (T : TheoryLists). Mentions T q) (sym theory) h))
+    c.touch_known.ensures.complements
+    (subst (λ (T : TheoryLists). IsWithinCone T c.args.draft.now.names rule_again c.args.steps.now c.touch_known.new.steps) theory
+    (subst (λ (e : Edit). IsWithinCone c.args.draft.now.theory c.args.draft.now.names e c.args.steps.now c.touch_known.new.steps) edit c.touch_known.ensures.steps))
