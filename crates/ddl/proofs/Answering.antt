@@ -23,13 +23,14 @@ use Rattle.ddl.specs.Serve.{HasFailed, HasLacked}
 use Rattle.ddl.specs.Serving.{PrintsTo, SaysTo, CountsBy, Works}
 use Rattle.ddl.specs.Theories.{limit, IsRefusal}
 use Rattle.ddl.specs.Whole.{HasFault, TakesAtMost}
-use Rattle.ddl.specs.Words.{Form, Conclude, Print, Check, Serve, form, form_of}
+use Rattle.ddl.specs.Words.{Form, Conclude, Print, Check, Gen, Serve, form, form_of}
 
 -- the program does not serve for a command
 pub command_unserved : (tells : Bool) (holds : List ℕ → Option (List ℕ)) (asked : Command) → IsUnserved tells holds (Some (form_of asked))
 command_unserved tells holds (command.Conclude f file) = tt
 command_unserved tells holds (command.Print file) = tt
 command_unserved tells holds (command.Check theory cert) = tt
+command_unserved tells holds (command.Gen seed size) = tt
 
 module _ (old new : HouseState) where
   reads_work : (asked : Option Form) → ReadsOnly old new (files_for asked) → most_for asked ≡ (λ name. limit + 1) → session_outputs asked ≡ [] → Works old new asked
@@ -45,6 +46,7 @@ module _ (old new : HouseState) where
   command_works (command.Conclude f file) reads = reads_work (Some (form_of (command.Conclude f file))) reads refl refl
   command_works (command.Print file) reads = reads_work (Some (form_of (command.Print file))) reads refl refl
   command_works (command.Check theory cert) reads = reads_work (Some (form_of (command.Check theory cert))) reads refl refl
+  command_works (command.Gen seed size) reads = reads_work (Some (form_of (command.Gen seed size))) reads refl refl
 
   -- only the theory was read
   pub theory_works : (theory : List ℕ) (names : List (List ℕ)) → ReadsOnly old new (theory ∷ []) → Works old new (Some (Serve theory names))
@@ -154,7 +156,7 @@ refused_replies tells old now theory names x asked held = record {
   names = theory ∷ [];
   asked_in = asked;
   may_end = (refl, refl);
-  shown = λ (told : tells ≡ true). let h = held told in refused (Serve theory names) h.0 x h.1 h.2;
+  shown = λ (told : tells ≡ true). let h = held told in refused (Serve theory names) theory h.0 x refl h.1 h.2;
 }
 
 -- standard output was not opened, so nothing was
@@ -164,6 +166,7 @@ module _ (tells : Bool) (old : HouseState) (words : List (List ℕ)) where
   lacks_by (Some (Conclude f file)) is = inr (inr (inl (record { memory = refl; no_fault = refl; front = λ told. inl (refl, refl); unserved = subst (IsUnserved tells old.holds) (sym is) tt })))
   lacks_by (Some (Print file)) is = inr (inr (inl (record { memory = refl; no_fault = refl; front = λ told. inl (refl, refl); unserved = subst (IsUnserved tells old.holds) (sym is) tt })))
   lacks_by (Some (Check theory cert)) is = inr (inr (inl (record { memory = refl; no_fault = refl; front = λ told. inl (refl, refl); unserved = subst (IsUnserved tells old.holds) (sym is) tt })))
+  lacks_by (Some (Gen seed size)) is = inr (inr (inl (record { memory = refl; no_fault = refl; front = λ told. inl (refl, refl); unserved = subst (IsUnserved tells old.holds) (sym is) tt })))
   lacks_by (Some (Serve theory names)) is = inr (inr (inr (record {
     theory = theory;
     names = names;
@@ -182,6 +185,7 @@ module _ (tells : Bool) (old : HouseState) (words : List (List ℕ)) where
   fails_by (Some (Conclude f file)) is = inr (inl (record { fault = refl; rose = rises old.faults; front = λ told. inl (refl, refl); unserved = subst (IsUnserved tells old.holds) (sym is) tt }))
   fails_by (Some (Print file)) is = inr (inl (record { fault = refl; rose = rises old.faults; front = λ told. inl (refl, refl); unserved = subst (IsUnserved tells old.holds) (sym is) tt }))
   fails_by (Some (Check theory cert)) is = inr (inl (record { fault = refl; rose = rises old.faults; front = λ told. inl (refl, refl); unserved = subst (IsUnserved tells old.holds) (sym is) tt }))
+  fails_by (Some (Gen seed size)) is = inr (inl (record { fault = refl; rose = rises old.faults; front = λ told. inl (refl, refl); unserved = subst (IsUnserved tells old.holds) (sym is) tt }))
   fails_by (Some (Serve theory names)) is = inr (inr (inr (record {
     theory = theory;
     names = names;

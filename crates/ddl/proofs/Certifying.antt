@@ -1,5 +1,5 @@
 -- From a certificate's bytes to what the words ask for, over two files.
-use Rattle.std.proofs.Common.{◌≡◌, ◌∙◌, ◌⊎◌, ◌+◌, inl, inr, ℕ, List, [], ◌∷◌, ◌++◌, Option, Some, sym, ap, subst, append_assoc}
+use Rattle.std.proofs.Common.{◌≡◌, ◌∙◌, ◌⊎◌, ◌+◌, inl, inr, ℕ, List, [], ◌∷◌, ◌++◌, Option, Some, refl, sym, ap, subst, append_assoc, append-nil}
 use Rattle.std.specs.Prelude.{Result}
 use Rattle.dl_io.specs.House.{HouseState}
 use Rattle.dl_theory.specs.Lists.{TheoryLists}
@@ -23,6 +23,7 @@ module _ (holds : List ℕ → Option (List ℕ)) (file cert bytes more : List �
   certificate_shown (reply.Refused (Edit line x)) h = absurd h
   certificate_shown (reply.Conclusions f cs) h = absurd h
   certificate_shown (reply.Text U) h = absurd h
+  certificate_shown (reply.Generated s) h = absurd h
   certificate_shown (reply.Checked x) h = checked file cert bytes more T x held loads kept h.0 h.1
 
 -- some was read, and then more
@@ -34,6 +35,18 @@ within_then old mid new same before after = λ name. elim (after name) as (λ _.
   ]
   | inr takes ↦ inr (subst (λ (holds : List ℕ → Option (List ℕ)). TakesAtMost (limit + 1) (holds name) (new.left name)) same takes)
 ]
+
+-- no file was read
+pub reads_nothing : (house : HouseState) → ReadsOnly house house []
+reads_nothing house = record {
+  holds = refl;
+  within = λ name. inl refl;
+  wrote = refl;
+  open_in = refl;
+  open_out = refl;
+  asked_in = ([], [], refl, sym (append-nil house.asked_in));
+  asked_out = refl;
+}
 
 -- one file was read, of two that were named
 pub reads_first : (old new : HouseState) (x y : List ℕ) → ReadsOnly old new (x ∷ []) → ReadsOnly old new (x ∷ y ∷ [])

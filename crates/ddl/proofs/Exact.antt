@@ -19,7 +19,7 @@ use Rattle.ddl.specs.declared.reply.Reply.TheVariants as reply
 use Rattle.ddl.specs.Theories.{limit, IsTheoryFile, IsRefusal}
 use Rattle.ddl.specs.Checks.{IsOnlyChecked}
 use Rattle.ddl.specs.Replies.{reply_status}
-use Rattle.ddl.specs.Run.{Outcome, Shows, usage, refused, concluded, printed, too_large, checked, Answers, MayEnd, ServesNames, AsksAbout}
+use Rattle.ddl.specs.Run.{Outcome, Shows, usage, refused, concluded, printed, too_large, checked, generated, Answers, MayEnd, ServesNames, AsksAbout}
 use Rattle.ddl.specs.Serve.{ends_status, ends_of, Prints, HasFailed, HasLacked, Serves}
 
 pub not_both : (bytes : List ℕ) (T : TheoryLists) (x : Refusal) → IsTheoryFile bytes T → IsRefusal bytes x → ⊥
@@ -31,11 +31,22 @@ not_both bytes T (Edit line x) t h = let e = loads_or_stops bytes T (stop.Edit l
 same_bytes : (held : Option (List ℕ)) (a b : List ℕ) → held ≡ Some a → held ≡ Some b → a ≡ b
 same_bytes held a b h i = cc
 
-module _ (holds : List ℕ → Option (List ℕ)) (asked : words.Form) (bytes : List ℕ) (held : holds (words.file_of asked) ≡ Some bytes) where
-  bytes_of : (a : words.Form) (b : List ℕ) → Some a ≡ Some asked → holds (words.file_of a) ≡ Some b → bytes ≡ b
-  bytes_of a b i h =
-      let same : a ≡ asked = cc in
-      same_bytes (holds (words.file_of asked)) bytes b held (subst (λ (f : words.Form). holds (words.file_of f) ≡ Some b) same h)
+same_file : (a asked : words.Form) (f file : List ℕ) → Some a ≡ Some asked → words.file_of a ≡ Some f → words.file_of asked ≡ Some file → f ≡ file
+same_file a asked f file i names is =
+    let same : a ≡ asked = cc in
+    same_bytes (words.file_of asked) f file (subst (λ (g : words.Form). words.file_of g ≡ Some f) same names) is
+
+-- words with a file of a theory are not about the calls of a number
+no_run : (asked : words.Form) (file : List ℕ) (seed size : ℕ) → Some (words.Gen seed size) ≡ Some asked → words.file_of asked ≡ Some file → ⊥
+no_run asked file seed size i is =
+    let same : words.Gen seed size ≡ asked = cc in
+    let none = subst (λ (g : words.Form). words.file_of g ≡ Some file) (sym same) is in
+    absurd (cc (none))
+
+module _ (holds : List ℕ → Option (List ℕ)) (asked : words.Form) (file bytes : List ℕ) (is : words.file_of asked ≡ Some file) (held : holds file ≡ Some bytes) where
+  bytes_of : (a : words.Form) (f b : List ℕ) → Some a ≡ Some asked → words.file_of a ≡ Some f → holds f ≡ Some b → bytes ≡ b
+  bytes_of a f b i names h =
+      same_bytes (holds file) bytes b held (subst (λ (g : List ℕ). holds g ≡ Some b) (same_file a asked f file i names is) h)
 
   -- a file that is the only one has no certificate beside it
   not_alone : words.IsAlone asked → (f c : List ℕ) → Some (words.Check f c) ≡ Some asked → ⊥
@@ -47,11 +58,12 @@ module _ (holds : List ℕ → Option (List ℕ)) (asked : words.Form) (bytes : 
   loads_done alone T t form names outcome e s =
       elim s as (λ f n o _. f ≡ Some asked → o.status ≡ status.Done) [
         | usage ↦ λ i. absurd (cc)
-        | refused a b x h r ↦ λ i. absurd (not_both b T x (subst (λ (y : List ℕ). IsTheoryFile y T) (bytes_of a b i h) t) r)
-        | concluded f file b U cs h u c ↦ λ i. refl
-        | printed file b U h u ↦ λ i. refl
+        | refused a g b x n h r ↦ λ i. absurd (not_both b T x (subst (λ (y : List ℕ). IsTheoryFile y T) (bytes_of a g b i n h) t) r)
+        | concluded f g b U cs h u c ↦ λ i. refl
+        | printed g b U h u ↦ λ i. refl
         | too_large f c b m U h u k l ↦ λ i. absurd (not_alone alone f c i)
         | checked f c b m U x h u k l j ↦ λ i. absurd (not_alone alone f c i)
+        | generated seed size s h ↦ λ i. refl
       ] e
 
   -- an answer that is done has a theory
@@ -60,11 +72,12 @@ module _ (holds : List ℕ → Option (List ℕ)) (asked : words.Form) (bytes : 
   shown_loads form names outcome e s =
       elim s as (λ f n o _. f ≡ Some asked → o.status ≡ status.Done → (T : TheoryLists) × IsTheoryFile bytes T) [
         | usage ↦ λ i d. absurd (cc)
-        | refused a b x h r ↦ λ i d. absurd (cc)
-        | concluded f file b U cs h u c ↦ λ i d. (U, subst (λ (y : List ℕ). IsTheoryFile y U) (sym (bytes_of (words.Conclude f file) b i h)) u)
-        | printed file b U h u ↦ λ i d. (U, subst (λ (y : List ℕ). IsTheoryFile y U) (sym (bytes_of (words.Print file) b i h)) u)
-        | too_large f c b m U h u k l ↦ λ i d. (U, subst (λ (y : List ℕ). IsTheoryFile y U) (sym (bytes_of (words.Check f c) b i h)) u)
-        | checked f c b m U x h u k l j ↦ λ i d. (U, subst (λ (y : List ℕ). IsTheoryFile y U) (sym (bytes_of (words.Check f c) b i h)) u)
+        | refused a g b x n h r ↦ λ i d. absurd (cc)
+        | concluded f g b U cs h u c ↦ λ i d. (U, subst (λ (y : List ℕ). IsTheoryFile y U) (sym (bytes_of (words.Conclude f g) g b i refl h)) u)
+        | printed g b U h u ↦ λ i d. (U, subst (λ (y : List ℕ). IsTheoryFile y U) (sym (bytes_of (words.Print g) g b i refl h)) u)
+        | too_large f c b m U h u k l ↦ λ i d. (U, subst (λ (y : List ℕ). IsTheoryFile y U) (sym (bytes_of (words.Check f c) f b i refl h)) u)
+        | checked f c b m U x h u k l j ↦ λ i d. (U, subst (λ (y : List ℕ). IsTheoryFile y U) (sym (bytes_of (words.Check f c) f b i refl h)) u)
+        | generated seed size s h ↦ λ i d. absurd (no_run asked file seed size i is)
       ] e
 
   -- what is answered by a refusal is refused, where no certificate is asked about
@@ -73,11 +86,12 @@ module _ (holds : List ℕ → Option (List ℕ)) (asked : words.Form) (bytes : 
   shown_refused alone form names outcome e s =
       elim s as (λ f n o _. f ≡ Some asked → o.status ≡ status.Refused → (x : Refusal) × IsRefusal bytes x) [
         | usage ↦ λ i d. absurd (cc)
-        | refused a b x h r ↦ λ i d. (x, subst (λ (y : List ℕ). IsRefusal y x) (sym (bytes_of a b i h)) r)
-        | concluded f file b U cs h u c ↦ λ i d. absurd (cc)
-        | printed file b U h u ↦ λ i d. absurd (cc)
+        | refused a g b x n h r ↦ λ i d. (x, subst (λ (y : List ℕ). IsRefusal y x) (sym (bytes_of a g b i n h)) r)
+        | concluded f g b U cs h u c ↦ λ i d. absurd (cc)
+        | printed g b U h u ↦ λ i d. absurd (cc)
         | too_large f c b m U h u k l ↦ λ i d. absurd (not_alone alone f c i)
         | checked f c b m U x h u k l j ↦ λ i d. absurd (not_alone alone f c i)
+        | generated seed size s h ↦ λ i d. absurd (cc)
       ] e
 
   -- where the file of the theory is refused, so are the words
@@ -86,11 +100,12 @@ module _ (holds : List ℕ → Option (List ℕ)) (asked : words.Form) (bytes : 
   refused_refused x r form names outcome e s =
       elim s as (λ f n o _. f ≡ Some asked → o.status ≡ status.Refused) [
         | usage ↦ λ i. absurd (cc)
-        | refused a b y h q ↦ λ i. refl
-        | concluded f file b U cs h u c ↦ λ i. absurd (not_both b U x u (subst (λ (y : List ℕ). IsRefusal y x) (bytes_of (words.Conclude f file) b i h) r))
-        | printed file b U h u ↦ λ i. absurd (not_both b U x u (subst (λ (y : List ℕ). IsRefusal y x) (bytes_of (words.Print file) b i h) r))
+        | refused a g b y n h q ↦ λ i. refl
+        | concluded f g b U cs h u c ↦ λ i. absurd (not_both b U x u (subst (λ (y : List ℕ). IsRefusal y x) (bytes_of (words.Conclude f g) g b i refl h) r))
+        | printed g b U h u ↦ λ i. absurd (not_both b U x u (subst (λ (y : List ℕ). IsRefusal y x) (bytes_of (words.Print g) g b i refl h) r))
         | too_large f c b m U h u k l ↦ λ i. refl
-        | checked f c b m U y h u k l j ↦ λ i. absurd (not_both b U x u (subst (λ (z : List ℕ). IsRefusal z x) (bytes_of (words.Check f c) b i h) r))
+        | checked f c b m U y h u k l j ↦ λ i. absurd (not_both b U x u (subst (λ (z : List ℕ). IsRefusal z x) (bytes_of (words.Check f c) f b i refl h) r))
+        | generated seed size s h ↦ λ i. absurd (no_run asked file seed size i is)
       ] e
 
 -- where the theory loads, a certificate ends the program as it is judged
@@ -117,9 +132,8 @@ module _ (old : HouseState) (given : List (List ℕ)) (T : TheoryLists) (certifi
   certificate_ends names outcome s =
       elim s as (λ f n o _. f ≡ Some asked → o.status ≡ expected) [
         | usage ↦ λ i. absurd (cc)
-        | refused a b x h r ↦ λ i.
-            let same : a ≡ asked = cc in
-            let held = subst (λ (g : words.Form). old.holds (words.file_of g) ≡ Some b) same h in
+        | refused a f b x n h r ↦ λ i.
+            let held = subst (λ (g : List ℕ). old.holds g ≡ Some b) (same_file a asked f asks.theory i n refl) h in
             absurd (not_both b T x (subst (λ (l : List ℕ). IsTheoryFile l T) (same_bytes (old.holds asks.theory) asks.bytes b asks.held held) asks.loads) r)
         | concluded f file b U cs h u c ↦ λ i. absurd (cc)
         | printed file b U h u ↦ λ i. absurd (cc)
@@ -129,6 +143,7 @@ module _ (old : HouseState) (given : List (List ℕ)) (T : TheoryLists) (certifi
             judged x (subst (λ (n : List ℕ). length n ≤ limit) e l)
             (subst (λ (n : List ℕ). IsOnlyChecked T n x) e
             (subst (λ (V : TheoryLists). IsOnlyChecked V m x) (one_theory b U (same_theory f c b i h) u) j))
+        | generated seed size s h ↦ λ i. absurd (cc)
       ] asks.asks
 
 -- words with this status have no form
@@ -142,6 +157,7 @@ usage_of (Some (words.Check theory cert)) names (inl (same, e)) = absurd (cc)
 usage_of (Some (words.Check theory cert)) names (inr (same, inl e)) = absurd (cc)
 usage_of (Some (words.Check theory cert)) names (inr (same, inr (inl e))) = absurd (cc)
 usage_of (Some (words.Check theory cert)) names (inr (same, inr (inr e))) = absurd (cc)
+usage_of (Some (words.Gen seed size)) names (same, e) = absurd (cc)
 usage_of (Some (words.Serve theory sessions)) names (same, e) = absurd (cc)
 
 ends_otherwise : (ends : List End) → ends_status ends ≡ status.Usage → ⊥
@@ -166,12 +182,14 @@ serves_otherwise tells old new given before serves = by serves.serves
       | inr lacked ↦ absurd (cc (lacked.memory))
     ]
 
+served_file : (asked : words.Form) (theory file : List ℕ) (sessions : List (List ℕ)) → Some (words.Serve theory sessions) ≡ Some asked → words.file_of asked ≡ Some file → file ≡ theory
+served_file asked theory file sessions i names = sym (same_file (words.Serve theory sessions) asked theory file i refl names)
+
 -- where the program is done, the file of the theory loads
-pub done_loads : (old new : HouseState) (given before : List (List ℕ)) (asked : words.Form) (bytes : List ℕ) → form given ≡ Some asked → old.holds (words.file_of asked) ≡ Some bytes
-    → ServesNames true old new given before status.Done → (T : TheoryLists) × IsTheoryFile bytes T
-done_loads old new given before asked bytes is held serves =
-    let same : asked ≡ words.Serve serves.theory serves.names = cc (is, serves.asks) in
-    by (subst (λ (f : words.Form). old.holds (words.file_of f) ≡ Some bytes) same held) serves.serves
+pub done_loads : (old new : HouseState) (given before : List (List ℕ)) (asked : words.Form) (file bytes : List ℕ) → form given ≡ Some asked → words.file_of asked ≡ Some file
+    → old.holds file ≡ Some bytes → ServesNames true old new given before status.Done → (T : TheoryLists) × IsTheoryFile bytes T
+done_loads old new given before asked file bytes is names held serves =
+    by (subst (λ (f : List ℕ). old.holds f ≡ Some bytes) (served_file asked serves.theory file serves.names (sym serves.asks ∙ is) names) held) serves.serves
   where
     by : old.holds serves.theory ≡ Some bytes → Serves true old new serves.theory serves.names (before ++ output_names serves.names) status.Done → (T : TheoryLists) × IsTheoryFile bytes T
     by there (inl has) =
@@ -192,6 +210,10 @@ module _ (old new : HouseState) (words : List (List ℕ)) (ends expected : Statu
   ends_so (inr (inr (inl lacks))) = inr lacks.memory
   ends_so (inr (inr (inr serves))) = served serves
 
+-- the calls of a number end with Done where they end by themselves
+pub run_done : (form : Option words.Form) (names : List (List ℕ)) (ends : Status) (seed size : ℕ) → form ≡ Some (words.Gen seed size) → MayEnd form names ends → ends ≡ status.Done
+run_done form names ends seed size is may = (subst (λ (a : Option words.Form). MayEnd a names ends) is may).1
+
 -- who asks for something else is not served
 module _ (tells : Bool) (old new : HouseState) (given before : List (List ℕ)) (ends : Status) where
   pub alone_unserved : (asked : words.Form) → form given ≡ Some asked → words.IsAlone asked → ServesNames tells old new given before ends → ⊥
@@ -199,15 +221,18 @@ module _ (tells : Bool) (old new : HouseState) (given before : List (List ℕ)) 
       let same : asked ≡ words.Serve serves.theory serves.names = cc (is, serves.asks) in
       subst (λ (f : words.Form). words.IsAlone f) same alone
 
+  pub run_unserved : (seed size : ℕ) → form given ≡ Some (words.Gen seed size) → ServesNames tells old new given before ends → ⊥
+  run_unserved seed size is serves = absurd (cc (is, serves.asks))
+
   pub check_unserved : (theory cert : List ℕ) → form given ≡ Some (words.Check theory cert) → ServesNames tells old new given before ends → ⊥
   check_unserved theory cert is serves = absurd (cc (is, serves.asks))
 
 -- nor is who asks for sessions from a file that is refused
-pub refused_unserved : (old new : HouseState) (given before : List (List ℕ)) (ends expected : Status) (asked : words.Form) (bytes : List ℕ) (x : Refusal) → form given ≡ Some asked
-    → old.holds (words.file_of asked) ≡ Some bytes → IsRefusal bytes x → (Rose old.faults new.faults → ⊥) → ServesNames true old new given before ends → (ends ≡ expected) ⊎ (ends ≡ status.Memory)
-refused_unserved old new given before ends expected asked bytes x is held refusal calm serves =
-    let same : asked ≡ words.Serve serves.theory serves.names = cc (is, serves.asks) in
-    by (subst (λ (f : words.Form). old.holds (words.file_of f) ≡ Some bytes) same held) serves.serves
+pub refused_unserved : (old new : HouseState) (given before : List (List ℕ)) (ends expected : Status) (asked : words.Form) (file bytes : List ℕ) (x : Refusal) → form given ≡ Some asked
+    → words.file_of asked ≡ Some file → old.holds file ≡ Some bytes → IsRefusal bytes x → (Rose old.faults new.faults → ⊥) → ServesNames true old new given before ends
+    → (ends ≡ expected) ⊎ (ends ≡ status.Memory)
+refused_unserved old new given before ends expected asked file bytes x is names held refusal calm serves =
+    by (subst (λ (f : List ℕ). old.holds f ≡ Some bytes) (served_file asked serves.theory file serves.names (sym serves.asks ∙ is) names) held) serves.serves
   where
     stopped : HasFailed old new serves.theory ends ⊎ HasLacked old new ends → (ends ≡ expected) ⊎ (ends ≡ status.Memory)
     stopped (inl failed) = absurd (calm failed.rose)

@@ -5,6 +5,7 @@ pub mod Replies
 pub mod Judging
 pub mod Certifying
 pub mod Exact
+pub mod Numerals
 mod Halls
 mod Naming
 mod Accounts

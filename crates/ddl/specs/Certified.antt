@@ -17,3 +17,4 @@ SaysOfCertificate T bytes (reply.Refused (refusal.Edit line x)) = ⊥
 SaysOfCertificate T bytes (reply.Conclusions f cs) = ⊥
 SaysOfCertificate T bytes (reply.Text U) = ⊥
 SaysOfCertificate T bytes (reply.Checked x) = (length bytes ≤ limit) × IsOnlyChecked T bytes x
+SaysOfCertificate T bytes (reply.Generated s) = ⊥

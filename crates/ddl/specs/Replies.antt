@@ -2,6 +2,7 @@
 use Rattle.std.specs.Prelude.{◌≡◌, ℕ, List, Option, Result, MatchResult, codes}
 use Rattle.dl_io.specs.Streams.{IsKnownFront}
 use Rattle.dl_print.specs.Text.{theory_text}
+use Rattle.dl_gen.specs.Summary.{summary_text}
 use Rattle.ddl.specs.declared.status.Status.{Status}
 use Rattle.ddl.specs.declared.status.Status.TheVariants as status
 use Rattle.ddl.specs.declared.reply.Reply.{Reply}
@@ -21,6 +22,7 @@ reply_status (reply.Conclusions f cs) = status.Done
 reply_status (reply.Text T) = status.Done
 reply_status (reply.Checked checked.Accepted) = status.Done
 reply_status (reply.Checked (checked.Rejected line)) = status.Rejected
+reply_status (reply.Generated s) = status.Done
 
 abbrev pub reply_text : Reply → List ℕ
 reply_text reply.Usage = usage_line
@@ -28,6 +30,7 @@ reply_text (reply.Refused x) = refused_line x
 reply_text (reply.Conclusions f cs) = conclusions_text f cs
 reply_text (reply.Text T) = theory_text T
 reply_text (reply.Checked x) = checked_line x
+reply_text (reply.Generated s) = summary_text s
 
 -- Ok handed on all that was written, and a failure a front of it.
 abbrev pub HandsOn : {T E : Type 0} → Option (List ℕ) → Option (List ℕ) → Result T E → Type 0

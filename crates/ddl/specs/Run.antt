@@ -6,6 +6,8 @@ use Rattle.dl_io.specs.Streams.{IsFront}
 use Rattle.dl_io.specs.House.{HouseState, IsShut, standard}
 use Rattle.dl_theory.specs.Lists.{TheoryLists}
 use Rattle.dl_print.specs.Text.{theory_text}
+use Rattle.dl_gen.specs.declared.summary.Summary.{Summary}
+use Rattle.dl_gen.specs.Summary.{IsSummary, summary_text}
 use Rattle.ddl.specs.declared.status.Status.{Status}
 use Rattle.ddl.specs.declared.status.Status.TheVariants as status
 use Rattle.ddl.specs.declared.refusal.Refusal.{Refusal}
@@ -17,7 +19,7 @@ use Rattle.ddl.specs.declared.check.Checked.{Checked}
 use Rattle.dl_lines.specs.declared.reader.TheConstants.{MOST_BYTES}
 use Rattle.dl_journal.specs.Names.{output_names, is_among}
 use Rattle.dl_journal.specs.Streams.{GrowsBy}
-use Rattle.ddl.specs.Words.{Form, Conclude, Print, Check, Serve, form, file_of}
+use Rattle.ddl.specs.Words.{Form, Conclude, Print, Check, Gen, Serve, form, file_of}
 use Rattle.ddl.specs.Theories.{limit, IsTheoryFile, IsRefusal, refused_line}
 use Rattle.ddl.specs.Checks.{IsOnlyChecked}
 use Rattle.ddl.specs.Whole.{TakesAtMost}
@@ -40,8 +42,8 @@ pub data Shows (holds : List ℕ → Option (List ℕ)) : Option Form → List (
   -- the words have no form: nothing is opened
   usage : Shows holds None [] (record { status = status.Usage; text = usage_line })
   -- the file of the theory is too large, or does not load: no other is opened
-  refused : (asked : Form) (bytes : List ℕ) (x : Refusal) → holds (file_of asked) ≡ Some bytes → IsRefusal bytes x
-      → Shows holds (Some asked) (file_of asked ∷ []) (record { status = status.Refused; text = refused_line x })
+  refused : (asked : Form) (file bytes : List ℕ) (x : Refusal) → file_of asked ≡ Some file → holds file ≡ Some bytes → IsRefusal bytes x
+      → Shows holds (Some asked) (file ∷ []) (record { status = status.Refused; text = refused_line x })
   -- the conclusions of the theory in a family
   concluded : (f : Family) (file bytes : List ℕ) (T : TheoryLists) (cs : List Conclusion) → holds file ≡ Some bytes
       → IsTheoryFile bytes T → AreConclusions T f cs
@@ -56,6 +58,9 @@ pub data Shows (holds : List ℕ → Option (List ℕ)) : Option Form → List (
   checked : (theory cert bytes more : List ℕ) (T : TheoryLists) (x : Checked) → holds theory ≡ Some bytes → IsTheoryFile bytes T → holds cert ≡ Some more
       → length more ≤ limit → IsOnlyChecked T more x
       → Shows holds (Some (Check theory cert)) (theory ∷ cert ∷ []) (outcome_of (reply.Checked x))
+  -- what the calls of a number come to: nothing is opened
+  generated : (seed size : ℕ) (s : Summary) → IsSummary seed size s
+      → Shows holds (Some (Gen seed size)) [] (record { status = status.Done; text = summary_text s })
 
 -- the files that the words name, in order
 abbrev pub files_for : Option Form → List (List ℕ)
@@ -63,6 +68,7 @@ files_for None = []
 files_for (Some (Conclude f file)) = file ∷ []
 files_for (Some (Print file)) = file ∷ []
 files_for (Some (Check theory cert)) = theory ∷ cert ∷ []
+files_for (Some (Gen seed size)) = []
 files_for (Some (Serve theory names)) = theory ∷ names
 
 abbrev pub files_of : List (List ℕ) → List (List ℕ)
@@ -74,6 +80,7 @@ session_outputs None = []
 session_outputs (Some (Conclude f file)) = []
 session_outputs (Some (Print file)) = []
 session_outputs (Some (Check theory cert)) = []
+session_outputs (Some (Gen seed size)) = []
 session_outputs (Some (Serve theory names)) = output_names names
 
 -- what is opened for output, in order
@@ -97,6 +104,7 @@ most_for None name = limit + 1
 most_for (Some (Conclude f file)) name = limit + 1
 most_for (Some (Print file)) name = limit + 1
 most_for (Some (Check theory cert)) name = limit + 1
+most_for (Some (Gen seed size)) name = limit + 1
 most_for (Some (Serve theory names)) name = if is_among name names then MOST_BYTES else limit + 1
 
 -- names were opened for input, read and settled, and nothing else
@@ -118,6 +126,7 @@ abbrev pub MayEnd : Option Form → List (List ℕ) → Status → Type 0
 MayEnd None names ends = (names ≡ []) × (ends ≡ status.Usage)
 MayEnd (Some (Conclude f file)) names ends = (names ≡ file ∷ []) × ((ends ≡ status.Done) ⊎ (ends ≡ status.Refused))
 MayEnd (Some (Print file)) names ends = (names ≡ file ∷ []) × ((ends ≡ status.Done) ⊎ (ends ≡ status.Refused))
+MayEnd (Some (Gen seed size)) names ends = (names ≡ []) × (ends ≡ status.Done)
 MayEnd (Some (Serve theory sessions)) names ends = (names ≡ theory ∷ []) × (ends ≡ status.Refused)
 MayEnd (Some (Check theory cert)) names ends = ((names ≡ theory ∷ []) × (ends ≡ status.Refused)) ⊎ ((names ≡ theory ∷ cert ∷ []) × MayJudge ends)
 
@@ -161,6 +170,7 @@ IsUnserved tells holds None = Unit {0}
 IsUnserved tells holds (Some (Conclude f file)) = Unit {0}
 IsUnserved tells holds (Some (Print file)) = Unit {0}
 IsUnserved tells holds (Some (Check theory cert)) = Unit {0}
+IsUnserved tells holds (Some (Gen seed size)) = Unit {0}
 IsUnserved tells holds (Some (Serve theory names)) = IsTrue tells → (bytes : List ℕ) × (x : Refusal) × (holds theory ≡ Some bytes) × IsRefusal bytes x
 
 -- The outside failed.

@@ -12,6 +12,7 @@ use crate::check::Checked;
 use crate::refusal::Refusal;
 use crate::reply::Reply;
 use dl_conclusions::write_conclusions;
+use dl_gen::write_summary;
 use dl_io::{Failed, Sink, write_all};
 use dl_print::{write_number, write_refusal, write_theory};
 use dl_theory::EditRefusal;
@@ -108,6 +109,7 @@ fn write_reply<S: Sink>(alloc: Global, sink: &mut S, reply: &Reply) -> Result<()
         ),
         Reply::Text(theory) => write_theory(sink, theory),
         Reply::Checked(checked) => write_checked(sink, *checked),
+        Reply::Generated(summary) => write_summary(sink, summary),
     }
 }
 

@@ -1,6 +1,6 @@
 //! The top call: from the words of the command line to standard output and a status.
 
-ghost use Rattle.std.specs.Prelude.{◌≡◌, ◌⊎◌, ◌∷◌, ◌++◌, [], Bool, List, ℕ, Option, true, false, map, string_bytes, IsTrue, IfOk, OnOk, Some};
+ghost use Rattle.std.specs.Prelude.{◌≡◌, ◌≤◌, ◌⊎◌, ◌∷◌, ◌++◌, [], Bool, List, ℕ, Option, true, false, map, string_bytes, IsTrue, IfOk, OnOk, Some};
 ghost use Rattle.std.specs.Str.{bytes_eq};
 ghost use Rattle.dl_io.specs.House.{IsShut, IsOpenedOut, settled_out, standard};
 ghost use Rattle.dl_io.specs.Outside.{HasCause};
@@ -12,7 +12,8 @@ ghost use Rattle.ddl.specs.Certified.{SaysOfCertificate};
 ghost use Rattle.ddl.specs.Serving.{Works, SaysTo};
 ghost use Rattle.ddl.specs.Theories.{limit, HoldsTheory, HoldsNumbered};
 ghost use Rattle.ddl.specs.Whole.{IsWhole, HasFault};
-ghost use Rattle.ddl.specs.Words.{form, form_of, may_serve, Conclude, Print, Check, Serve};
+ghost use Rattle.ddl.specs.Words.{form, form_of, may_serve, IsRunnable, Conclude, Print, Check, Gen, Serve};
+ghost use Rattle.ddl.specs.declared.words.TheConstants.{MOST_ATOMS};
 
 use crate::check::check;
 use crate::conclusion::conclusions;
@@ -24,6 +25,7 @@ use crate::status::Status;
 use crate::theory_file::{Loaded, load, read};
 use crate::whole::Stop;
 use crate::words::{Asked, Command, asked_of};
+use dl_gen::summarize;
 use dl_io::{Failed, House, OpenStop, Sink};
 use dl_lit::{Family, Memory};
 use dl_net::NumberedTheory;
@@ -115,9 +117,30 @@ fn check_files<H: House>(
     }
 }
 
+// What the calls of a number come to.
+fn generate<R: Threads + Wait + Sync>(
+    rt: &R,
+    alloc: Global,
+    seed: u64,
+    size: u64,
+) -> Result<Reply, Memory>
+    requires { size ≤ MOST_ATOMS }
+    ensures shown { (holds : List ℕ → Option (List ℕ)) → IfOk result (λ reply. Shows holds (Some (Gen seed size)) [] (outcome_of reply)) }
+    ensures ends { IfOk result (λ reply. reply_status reply ≡ Status.Done) }
+{
+    let summary = summarize(rt, alloc, seed, size)?;
+    Ok(Reply::Generated(summary))
+}
+
 // The reply to a command. Files are read and settled; nothing is written.
-fn reply_of<H: House>(alloc: Global, command: Command<'_>, house: &mut H) -> Result<Reply, Stop>
-    requires { (name : List ℕ) → (H.state house.old).open_in name ≡ false }
+fn reply_of<R: Threads + Wait + Sync, H: House>(
+    rt: &R,
+    alloc: Global,
+    command: Command<'_>,
+    house: &mut H,
+) -> Result<Reply, Stop>
+    requires shut { (name : List ℕ) → (H.state house.old).open_in name ≡ false }
+    requires runnable { IsRunnable command }
     ensures house { ReadsOnly (H.state house.old) (H.state house.new) (files_for (Some (form_of command.entry))) }
     ensures cause { HasFault (H.state house.old).faults (H.state house.new).faults result }
     ensures reply { IfOk result (Replies H.tells (H.state house.old) (H.state house.new) (Some (form_of command.entry))) }
@@ -134,6 +157,10 @@ fn reply_of<H: House>(alloc: Global, command: Command<'_>, house: &mut H) -> Res
         }
         Command::Check(file, cert) => {
             let reply = check_files(alloc, house, file, cert)?;
+            Ok(reply)
+        }
+        Command::Gen(seed, size) => {
+            let reply = generate(rt, alloc, seed, size)?;
             Ok(reply)
         }
     }
@@ -222,7 +249,7 @@ fn respond<R: Threads + Wait + Sync, H: House>(
     match asked_of(words) {
         Some(Asked::Serve(file, names)) => serve_file(rt, alloc, file, names, house, sink),
         Some(Asked::Command(command)) => {
-            let reply = reply_of(alloc, command, house);
+            let reply = reply_of(rt, alloc, command, house);
             answer(alloc, sink, reply)
         }
         None => answer(alloc, sink, Ok(Reply::Usage)),

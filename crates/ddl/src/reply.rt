@@ -7,6 +7,7 @@ use crate::check::Checked;
 use crate::refusal::Refusal;
 use crate::status::Status;
 use dl_conclusions::Concluded;
+use dl_gen::Summary;
 use dl_lit::Family;
 use dl_theory::Theory;
 
@@ -23,6 +24,8 @@ pub enum Reply {
     Text(Theory),
     /// What is said of a certificate.
     Checked(Checked),
+    /// What the calls of a number come to.
+    Generated(Summary),
 }
 
 /// How the program ends where it said this.
@@ -36,5 +39,6 @@ pub fn status_of(reply: &Reply) -> Status
         Reply::Text(_) => Status::Done,
         Reply::Checked(Checked::Accepted) => Status::Done,
         Reply::Checked(Checked::Rejected { .. }) => Status::Rejected,
+        Reply::Generated(_) => Status::Done,
     }
 }

@@ -4,12 +4,16 @@ ghost use Rattle.std.specs.Prelude.{◌≡◌, codes, map, string_bytes, IfSome}
 ghost use Rattle.std.specs.Str.{bytes_eq};
 ghost use Rattle.dl_journal.specs.Names.{output_name, output_names, is_among};
 ghost use Rattle.std.specs.Option.{option_map};
-ghost use Rattle.ddl.specs.Words.{form, form_of, asked_form, IsServable, form_of_one, form_of_two, command_form, conclude_form, check_form, serve_form, family_of, are_names, are_apart};
+ghost use Rattle.ddl.specs.Words.{form, form_of, asked_form, IsServable, IsRunnable, form_of_one, form_of_two, command_form, conclude_form, check_form, gen_form, serve_form, family_of, number_of, are_names, are_apart};
 
 use dl_lit::Family;
+use dl_read::read_number;
 
 /// The most sessions that are served.
 pub const MOST_SESSIONS: usize = 64;
+
+/// The most atoms of a run of generated calls.
+pub const MOST_ATOMS: u64 = 4096;
 
 /// What the words ask for.
 #[derive(Clone, Copy)]
@@ -20,6 +24,8 @@ pub enum Command<'a> {
     Print(&'a String),
     /// Whether the second file is a certificate of the theory in the first.
     Check(&'a String, &'a String),
+    /// What the calls come to that are generated from a number, with so many atoms.
+    Gen(u64, u64),
 }
 
 /// What the words ask for: a reply, or sessions.
@@ -47,7 +53,8 @@ fn family_of(word: &str) -> Option<Family>
 }
 
 fn conclude<'a>(family: &str, file: &'a String) -> Option<Command<'a>>
-    ensures { option_map form_of result ≡ conclude_form family.now (string_bytes file.now) }
+    ensures form { option_map form_of result ≡ conclude_form family.now (string_bytes file.now) }
+    ensures may { IfSome result IsRunnable }
 {
     if file.is_empty() {
         return None;
@@ -57,13 +64,33 @@ fn conclude<'a>(family: &str, file: &'a String) -> Option<Command<'a>>
 }
 
 fn check<'a>(theory: &'a String, cert: &'a String) -> Option<Command<'a>>
-    ensures { option_map form_of result ≡ check_form (string_bytes theory.now) (string_bytes cert.now) }
+    ensures form { option_map form_of result ≡ check_form (string_bytes theory.now) (string_bytes cert.now) }
+    ensures may { IfSome result IsRunnable }
 {
     if theory.is_empty() || cert.is_empty() {
         None
     } else {
         Some(Command::Check(theory, cert))
     }
+}
+
+/// The number that a word is, as sessions spell it.
+fn number_of(word: &str) -> Option<u64>
+    ensures { result ≡ number_of word.now }
+{
+    read_number(word.as_bytes())
+}
+
+fn generate<'a>(seed: &str, size: &str) -> Option<Command<'a>>
+    ensures form { option_map form_of result ≡ gen_form seed.now size.now }
+    ensures may { IfSome result IsRunnable }
+{
+    let seed = number_of(seed)?;
+    let size = number_of(size)?;
+    if size > MOST_ATOMS {
+        return None;
+    }
+    Some(Command::Gen(seed, size))
 }
 
 /// Whether the word is the output of a session with this name.
@@ -143,7 +170,8 @@ fn serve(words: &[String]) -> Option<Asked<'_>>
 }
 
 fn command_of_one<'a>(command: &str, file: &'a String) -> Option<Command<'a>>
-    ensures { option_map form_of result ≡ form_of_one command.now (string_bytes file.now) }
+    ensures form { option_map form_of result ≡ form_of_one command.now (string_bytes file.now) }
+    ensures may { IfSome result IsRunnable }
 {
     if command == "print" && !file.is_empty() {
         Some(Command::Print(file))
@@ -153,23 +181,28 @@ fn command_of_one<'a>(command: &str, file: &'a String) -> Option<Command<'a>>
 }
 
 fn command_of_two<'a>(command: &str, first: &'a String, second: &'a String) -> Option<Command<'a>>
-    ensures { option_map form_of result ≡ form_of_two command.now (string_bytes first.now) (string_bytes second.now) }
+    ensures form { option_map form_of result ≡ form_of_two command.now (string_bytes first.now) (string_bytes second.now) }
+    ensures may { IfSome result IsRunnable }
 {
     if command == "conclude" {
         conclude(first.as_str(), second)
     } else if command == "check" {
         check(first, second)
+    } else if command == "gen" {
+        generate(first.as_str(), second.as_str())
     } else {
         None
     }
 }
 
 fn command_of<'a>(command: &str, words: &'a [String]) -> Option<Command<'a>>
-    ensures { option_map form_of result ≡ command_form command.now (map string_bytes words.now) }
+    ensures form { option_map form_of result ≡ command_form command.now (map string_bytes words.now) }
+    ensures may { IfSome result IsRunnable }
 {
-    match words {
-        [file] => command_of_one(command, file),
-        [first, second] => command_of_two(command, first, second),
+    let (first, others) = words.split_first()?;
+    match others {
+        [] => command_of_one(command, first),
+        [second] => command_of_two(command, first, second),
         _ => None,
     }
 }

@@ -3,3 +3,6 @@ pub mod Drawing
 pub mod Kept
 pub mod Survey
 pub mod Answers
+pub mod Summary
+pub mod Replaying
+pub mod Running

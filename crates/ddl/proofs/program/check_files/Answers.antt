@@ -27,7 +27,7 @@ returns-in-Refused-clause-reply g c =
       may_end = inl (refl, refl);
       shown = λ told.
           let gives = c.in_ok-refusal.ensures.loaded told in
-          refused (Check file (string_bytes c.args.cert.now)) gives.0 c.in-Refused.refusal gives.1
+          refused (Check file (string_bytes c.args.cert.now)) file gives.0 c.in-Refused.refusal refl gives.1
           (subst (λ (x : Loaded TheoryLists). IsLoaded (λ (T : TheoryLists). T) gives.0 x) c.in-Refused.is gives.2);
     }
 

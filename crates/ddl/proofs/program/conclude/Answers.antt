@@ -1,4 +1,4 @@
-use Rattle.std.proofs.Common.{subst}
+use Rattle.std.proofs.Common.{refl, subst}
 use Rattle.dl_net.specs.Numbers.{NetLists}
 use Rattle.ddl.specs.declared.theory_file.Loaded.{Loaded}
 use Rattle.ddl.specs.Theories.{IsLoaded}
@@ -13,5 +13,5 @@ returns-in_ok-concluded-in-Theory-clause-shown c = λ holds file gives.
 
 pub returns-in-Refused-clause-shown : goal.returns-in-Refused-clause-shown
 returns-in-Refused-clause-shown c = λ holds file gives.
-    refused (Conclude c.args.family file) gives.0 c.in-Refused.refusal gives.1
+    refused (Conclude c.args.family file) file gives.0 c.in-Refused.refusal refl gives.1
     (subst (λ (x : Loaded NetLists). IsLoaded (λ (N : NetLists). N.theory) gives.0 x) c.in-Refused.is gives.2)

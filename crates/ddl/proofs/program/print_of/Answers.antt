@@ -1,4 +1,4 @@
-use Rattle.std.proofs.Common.{subst}
+use Rattle.std.proofs.Common.{refl, subst}
 use Rattle.dl_theory.specs.Lists.{TheoryLists}
 use Rattle.ddl.specs.declared.theory_file.Loaded.{Loaded}
 use Rattle.ddl.specs.Theories.{IsLoaded}
@@ -12,5 +12,5 @@ returns-in-Theory-clause-shown c = λ holds file gives.
 
 pub returns-in-Refused-clause-shown : goal.returns-in-Refused-clause-shown
 returns-in-Refused-clause-shown c = λ holds file gives.
-    refused (Print file) gives.0 c.in-Refused.refusal gives.1
+    refused (Print file) file gives.0 c.in-Refused.refusal refl gives.1
     (subst (λ (x : Loaded TheoryLists). IsLoaded (λ (T : TheoryLists). T) gives.0 x) c.in-Refused.is gives.2)

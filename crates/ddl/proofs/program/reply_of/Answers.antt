@@ -1,7 +1,8 @@
-use Rattle.std.proofs.Common.{[], ◌∷◌, Some, refl, sym, subst, string_bytes}
+use Rattle.std.proofs.Common.{[], ◌∷◌, Some, refl, sym, subst, string_bytes, append-nil}
 use Rattle.ddl.specs.declared.words.Command.{Command}
 use Rattle.ddl.specs.Words.{form_of}
-use Rattle.ddl.specs.Run.{Replies}
+use Rattle.ddl.specs.Run.{Replies, ReadsOnly, files_for}
+use Rattle.ddl.proofs.Certifying.{reads_nothing}
 use Rattle.ddl.proofs.program.reply_of.Goals as goal
 
 pub returns-in_ok-reply-in-Conclude-clause-reply : goal.returns-in_ok-reply-in-Conclude-clause-reply
@@ -26,4 +27,25 @@ returns-in_ok-loaded-in-Print-clause-reply g c =
       asked_in = c.in_ok-loaded-in-Print.ensures.asked;
       may_end = (refl, c.print_of.ensures.ends);
       shown = λ told. c.print_of.ensures.shown (state c.args.house.now).holds file (c.in_ok-loaded-in-Print.ensures.loaded told);
+    })
+
+pub returns-in_ok-reply-in-Gen-clause-house : goal.returns-in_ok-reply-in-Gen-clause-house
+returns-in_ok-reply-in-Gen-clause-house g c =
+    let state = g.H.House.state in
+    subst (λ (k : Command). ReadsOnly (state c.args.house.now) (state c.args.house.now) (files_for (Some (form_of k)))) (sym c.in-Gen.is) (reads_nothing (state c.args.house.now))
+
+pub returns-in_err-reply-in-Gen-clause-house : goal.returns-in_err-reply-in-Gen-clause-house
+returns-in_err-reply-in-Gen-clause-house g c =
+    let state = g.H.House.state in
+    subst (λ (k : Command). ReadsOnly (state c.args.house.now) (state c.args.house.now) (files_for (Some (form_of k)))) (sym c.in-Gen.is) (reads_nothing (state c.args.house.now))
+
+pub returns-in_ok-reply-in-Gen-clause-reply : goal.returns-in_ok-reply-in-Gen-clause-reply
+returns-in_ok-reply-in-Gen-clause-reply g c =
+    let state = g.H.House.state in
+    subst (λ (k : Command). Replies g.H.House.tells (state c.args.house.now) (state c.args.house.now) (Some (form_of k)) c.in_ok-reply-in-Gen.reply) (sym c.in-Gen.is)
+    (record {
+      names = [];
+      asked_in = sym (append-nil (state c.args.house.now).asked_in);
+      may_end = (refl, c.in_ok-reply-in-Gen.ensures.ends);
+      shown = λ told. c.in_ok-reply-in-Gen.ensures.shown (state c.args.house.now).holds;
     })
