@@ -1,6 +1,6 @@
 //! What the program answers on words and a theory.
 
-use crate::houses::{Asked, expect, faultless};
+use crate::houses::{Asked, expect, faultless, served, text_under};
 use ddl::Status;
 use std::alloc::Global;
 use std::process::Abort;
@@ -218,6 +218,27 @@ fn files_are_answered(rt: HostRuntime) -> Result<(), Fail> {
     Ok(())
 }
 
+/// A file with an edit in each of its lines, none of which needs the next.
+const NOTES: &[u8] = b"# notes\r\n  a,b=>-c   # body\r\n>>a\r\nr[O]: -> pay\r\nr > _2\r\n";
+
+/// A file may end at each of its bytes.
+#[test]
+fn each_front_of_a_file_is_answered(rt: HostRuntime) -> Result<(), Fail> {
+    let alloc = rt.alloc();
+    for end in 0..=NOTES.len() {
+        let front = NOTES.get(..end).unwrap_or(NOTES);
+        let (house, status) = served(&rt, alloc, PRINT, &[faultless("t", front)])?;
+        let text = text_under(alloc, &house, "-")?;
+        let is_refused = text.as_slice().starts_with(b"refused line ");
+        if is_refused {
+            assert_eq!(&rt; status, Status::Refused);
+        } else {
+            assert_eq!(&rt; status, Status::Done);
+        }
+    }
+    Ok(())
+}
+
 const CHECK: &[&str] = &["check", "t", "c"];
 
 /// There is no file `c`: to open it would be a fault.
@@ -244,16 +265,53 @@ fn no_certificate_is_opened_for_a_bad_theory(rt: HostRuntime) -> Result<(), Fail
     Ok(())
 }
 
+/// No file is opened: there is none but `t`.
+const RUNS: [Row; 3] = [
+    Row {
+        words: &["gen", "7", "0"],
+        theory: b"",
+        status: Status::Done,
+        text: b"edits accepted 0 refused 0\neditions 1\nfacts 0 rules 0 pairs 0\nD proved 0 refuted 0 neither 0\nd proved 0 refuted 0 neither 0\na proved 0 refuted 0 neither 0\ns proved 0 refuted 0 neither 0\nchecked 0\n",
+    },
+    Row {
+        words: &["gen", "1", "3"],
+        theory: b"",
+        status: Status::Done,
+        text: b"edits accepted 2 refused 1\neditions 1\nfacts 2 rules 9 pairs 5\nD proved 2 refuted 4 neither 0\nd proved 3 refuted 3 neither 0\na proved 3 refuted 3 neither 0\ns proved 5 refuted 1 neither 0\nchecked 24\n",
+    },
+    // A number of 19 digits.
+    Row {
+        words: &["gen", "9999999999999999999", "0"],
+        theory: b"",
+        status: Status::Done,
+        text: b"edits accepted 0 refused 0\neditions 1\nfacts 0 rules 0 pairs 0\nD proved 0 refuted 0 neither 0\nd proved 0 refuted 0 neither 0\na proved 0 refuted 0 neither 0\ns proved 0 refuted 0 neither 0\nchecked 0\n",
+    },
+];
+
+#[test]
+fn runs_of_numbers_are_summed_up(rt: HostRuntime) -> Result<(), Fail> {
+    for row in RUNS.iter() {
+        expect_row(&rt, rt.alloc(), row)?;
+    }
+    Ok(())
+}
+
 const USAGE: &[u8] =
     b"usage: ddl conclude F FILE, print FILE, check THEORY CERT, gen N SIZE, serve THEORY NAME [NAME ...]\n";
 
-const NO_FORM: [&[&str]; 6] = [
+const NO_FORM: [&[&str]; 12] = [
     &[],
     &["conclude", "x", "t"],
     &["conclude", "D"],
     &["conclude", "D", ""],
     &["print", ""],
     &["--help"],
+    &["gen", "7", "4097"],
+    &["gen", "07", "1"],
+    &["gen", "7"],
+    &["gen", "7", "1", "1"],
+    &["gen", "-1", "2"],
+    &["gen", "18446744073709551616", "1"],
 ];
 
 #[test]

@@ -16,7 +16,7 @@ const LOOP: &[u8] = b"r: p => p\n";
 /// A theory and a certificate, which are the files `t` and `c`, and what comes of checking it.
 type Row = (&'static [u8], &'static [u8], Status, &'static [u8]);
 
-const ROWS: [Row; 9] = [
+const ROWS: [Row; 11] = [
     (
         PENGUIN,
         b"derivation\n+D penguin\n+d penguin\n-D flies\n+d -flies\n",
@@ -42,6 +42,13 @@ const ROWS: [Row; 9] = [
         b"rejected 3\n",
     ),
     (PENGUIN, b"derivation\n", Status::Rejected, b"rejected 2\n"),
+    (PENGUIN, b"derivation", Status::Rejected, b"rejected 2\n"),
+    (
+        PENGUIN,
+        b"derivation\n+D",
+        Status::Rejected,
+        b"rejected 2\n",
+    ),
     (PENGUIN, b"", Status::Rejected, b"rejected 1\n"),
     (
         LOOP,

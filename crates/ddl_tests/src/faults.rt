@@ -1,6 +1,6 @@
 //! Reads and writes that fail, and files that are not there.
 
-use crate::houses::{Asked, File, expect};
+use crate::houses::{Asked, File, expect, faultless};
 use ddl::Status;
 use std::alloc::Global;
 use std::process::Abort;
@@ -23,7 +23,7 @@ const PRINT: &[&str] = &["print", "t"];
 
 const CONCLUDE: &[&str] = &["conclude", "D", "t"];
 
-const ROWS: [Row; 5] = [
+const ROWS: [Row; 6] = [
     // No file of that name.
     Row {
         words: &["print", "u"],
@@ -63,6 +63,14 @@ const ROWS: [Row; 5] = [
         read_fails: &[],
         write_fails: &[1],
         text: b">> ",
+    },
+    // The same of a run, which reads nothing.
+    Row {
+        words: &["gen", "7", "0"],
+        theory: b"",
+        read_fails: &[0],
+        write_fails: &[1],
+        text: b"edits accepted ",
     },
 ];
 
@@ -108,16 +116,12 @@ fn expect_fault<R: Threads + Wait + Sync + Abort>(
     row: &Row,
 ) -> Result<(), Fail> {
     let theory = File {
-        name: "t",
-        bytes: row.theory,
         read_fails: row.read_fails,
-        write_fails: &[],
+        ..faultless("t", row.theory)
     };
     let output = File {
-        name: "-",
-        bytes: b"",
-        read_fails: &[],
         write_fails: row.write_fails,
+        ..faultless("-", b"")
     };
     let asked = Asked {
         words: row.words,

@@ -12,11 +12,13 @@ use std::sync::Wait;
 use std::test::Fail;
 use std::thread::Threads;
 
-/// A file of a house: its name and its bytes, and at which calls reads of it and writes to it fail.
+/// A file of a house: its name and its bytes, whether each read of it gives one line at most, and at which calls reads of it and writes
+/// to it fail.
 #[derive(Clone, Copy)]
 pub(crate) struct File<'a> {
     pub(crate) name: &'a str,
     pub(crate) bytes: &'a [u8],
+    pub(crate) by_lines: bool,
     pub(crate) read_fails: &'a [usize],
     pub(crate) write_fails: &'a [usize],
 }
@@ -26,6 +28,7 @@ pub(crate) fn faultless<'a>(name: &'a str, bytes: &'a [u8]) -> File<'a> {
     File {
         name,
         bytes,
+        by_lines: false,
         read_fails: &[],
         write_fails: &[],
     }
@@ -39,7 +42,11 @@ fn put(alloc: Global, house: &mut MemoryHouse, file: File<'_>) -> Result<(), Fai
     let bytes = file.bytes.to_vec(alloc)?;
     let read_fails = file.read_fails.to_vec(alloc)?;
     let write_fails = file.write_fails.to_vec(alloc)?;
-    house.put(name, bytes, read_fails, write_fails)?;
+    if file.by_lines {
+        house.put_lines(name, bytes, read_fails, write_fails)?;
+    } else {
+        house.put(name, bytes, read_fails, write_fails)?;
+    }
     Ok(())
 }
 

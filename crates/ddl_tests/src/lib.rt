@@ -8,6 +8,8 @@ mod answers;
 #[cfg(test)]
 mod certificates;
 #[cfg(test)]
+mod cuts;
+#[cfg(test)]
 mod faults;
 #[cfg(test)]
 mod houses;

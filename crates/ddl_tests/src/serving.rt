@@ -42,28 +42,20 @@ fn expect_row<R: Threads + Wait + Sync + Abort>(
 ) -> Result<(), Fail> {
     let files = [
         File {
-            name: "t",
-            bytes: row.theory,
             read_fails: faults.theory,
-            write_fails: &[],
+            ..faultless("t", row.theory)
         },
         File {
-            name: "a",
-            bytes: row.input,
             read_fails: faults.input,
-            write_fails: &[],
+            ..faultless("a", row.input)
         },
         File {
-            name: "a.out",
-            bytes: b"an earlier output",
-            read_fails: &[],
             write_fails: faults.output,
+            ..faultless("a.out", b"an earlier output")
         },
         File {
-            name: "-",
-            bytes: b"",
-            read_fails: &[],
             write_fails: faults.journal,
+            ..faultless("-", b"")
         },
     ];
     let (house, status) = served(rt, alloc, &["serve", "t", "a"], &files)?;
