@@ -26,7 +26,11 @@ const RULES: u64 = 100_000;
 const ROUNDS: u64 = 20_000;
 
 /// Makes an edit, and shows what numbers there were before.
-fn touch_known<L: Ledger>(draft: &mut Draft, edit: &Edit, steps: &mut Steps<L>) -> Result<(), EditStop>
+fn touch_known<L: Ledger>(
+    draft: &mut Draft,
+    edit: &Edit,
+    steps: &mut Steps<L>,
+) -> Result<(), EditStop>
     ensures mentioned { (q : Literal) → Mentions draft.old.theory q → Contains draft.old.names q }
     ensures complements { (q : Literal) → Contains draft.old.names q → Contains draft.old.names (complement q) }
     ensures steps { IsWithinCone draft.old.theory draft.old.names edit.now steps.old steps.new }
