@@ -1,11 +1,13 @@
 -- Pairs of literals that are kept by their atoms.
-use Rattle.std.proofs.Common.{◌≡◌, ℕ, zero, suc, ◌+◌, ◌≤◌, Bool, true, false, not, ◌||◌, cond, Option, None, Some, Result, Ok, Err, List, [], ◌∷◌, ◌++◌, length, get_or, map, refl, sym, ap, ◌∙◌, arith, inl, inr, position}
+use Rattle.std.proofs.Common.{◌≡◌, ℕ, zero, suc, ◌+◌, ◌<◌, ◌≤◌, Bool, true, false, not, ◌||◌, cond, Option, None, Some, Result, Ok, Err, List, [], ◌∷◌, ◌++◌, length, get_or, map, take, refl, sym, ap, ◌∙◌, arith, inl, inr, position}
 use Rattle.std.specs.Prelude.{All, Contains, IfOk, OnOk, OnErr, nat_lt, slice_get, if◌then◌else◌}
 use Rattle.std.specs.List.{list_any, position_or_len}
+use Rattle.std.specs.List as keys
+use Rattle.std.specs.Cmp.{IsEquivalence}
 use Rattle.std.specs.Str.{bytes_eq}
 use Rattle.std.proofs.lemmas.Bool.{cases_lt}
 use Rattle.std.proofs.lemmas.Bool.Decides.{same_from_decides}
-use Rattle.std.proofs.lemmas.List.{length-map, map-append, length-append}
+use Rattle.std.proofs.lemmas.List.{length-map, map-append, length-append, take_more, take_all}
 use Rattle.std.proofs.lemmas.List.Elements.{All-head, All-tail, All-weaker}
 use Rattle.std.proofs.lemmas.List.Folds.{list_any_at}
 use Rattle.std.proofs.lemmas.List.Sums.{position_or_len_is}
@@ -14,7 +16,8 @@ use Rattle.std.proofs.lemmas.Option.{slice_get-get_or, slice_get_within, get_or_
 use Rattle.std.proofs.lemmas.Slice.Eq.{bytes_eq-Decides}
 use Rattle.dl_base.specs.Paths.{IsDistinct}
 use Rattle.dl_base.proofs.Filters.{false_unless}
-use Rattle.indexmap.specs.IndexSet.{insert_key}
+use Rattle.indexmap.specs.IndexSet.{insert_key, insert_all}
+use Rattle.indexmap.proofs.SetLemmas.{set_all_push, set_all_distinct}
 use Rattle.dl_lit.specs.declared.literal.Literal.{Literal}
 use Rattle.dl_names.specs.declared.atom.Atom.{Atom}
 use Rattle.dl_names.specs.Atoms.{mode_at, first_of, pair_eq, pair_eq-Decides}
@@ -59,6 +62,19 @@ module _ {K : Type 0} (eq : K → K → Bool) (ks : List K) (k : K) where
       position_or_len_is (eq k) ks (length ks) k (omega arith)
       (λ j before. false_unless (eq k (get_or ks j k)) ((λ h. h), (λ h. h)) (λ h. let there = list_any_at (eq k) ks j k before h in let no : true ≡ false = sym there ∙ e in cc))
       (λ lt. absurd (omega (arith, lt)))
+
+-- the next of some members is put in behind those before it
+pub put_next : {K : Type 0} (eq : K → K → Bool) (ks : List K) (i : ℕ) (k copy : K) (old new : List K) → i < length ks → k ≡ get_or ks i k → copy ≡ k
+    → old ≡ insert_all eq [] (take i ks) → new ≡ insert_key eq old copy → new ≡ insert_all eq [] (take (i + 1) ks)
+put_next {K} eq ks i k copy old new within here same before after =
+    after ∙ (λ j. insert_key eq (before j) (same j)) ∙ sym (set_all_push eq [] (take i ks) k)
+    ∙ ap (insert_all eq []) (ap (λ (v : K). take i ks ++ v ∷ []) here ∙ sym (take_more ks i k within))
+
+-- and members that differ are put in as they stand
+pub put_all : {K : Type 0} {eq : K → K → Bool} → IsEquivalence eq → (ks all new : List K) (i : ℕ) → keys.IsDistinct eq ks → all ≡ ks → length all ≤ i
+    → new ≡ insert_all eq [] (take i all) → new ≡ ks
+put_all {eq = eq} laws ks all new i distinct same past is =
+    is ∙ ap (insert_all eq []) (take_all i all past ∙ same) ∙ set_all_distinct laws [] ks distinct
 
 pub not_true : (b : Bool) → true ≡ not b → b ≡ false
 not_true true e = cc

@@ -1,12 +1,12 @@
 -- Literals that are kept by their modes and atoms, each beside its complement.
-use Rattle.std.proofs.Common.{◌≡◌, ◌⊎◌, ℕ, zero, suc, ◌+◌, ◌*◌, ◌/◌, ◌<◌, Bool, true, false, not, cond, Option, None, Some, List, [], ◌∷◌, ◌++◌, length, get_or, take, refl, sym, ap, subst, ◌∙◌, arith, inl, inr, position}
+use Rattle.std.proofs.Common.{◌≡◌, ◌⊎◌, ℕ, zero, suc, ◌+◌, ◌*◌, ◌/◌, ◌<◌, Bool, true, false, not, cond, Option, None, Some, List, [], ◌∷◌, ◌++◌, length, get_or, refl, sym, ap, subst, ◌∙◌, arith, inl, inr, position}
 use Rattle.std.specs.Prelude.{Contains, nat_lt, slice_get}
 use Rattle.std.specs.Bool.{beq}
 use Rattle.std.specs.List.{list_any, position_or_len}
 use Rattle.std.specs.Option.{option_map}
 use Rattle.std.specs.Cmp.{booleans_Decides}
 use Rattle.std.proofs.lemmas.Bool.{cond-true, lt-ltb, or_left, or_right, or_cases}
-use Rattle.std.proofs.lemmas.Option.{get_or_from_slice_get, slice_get_within, slice_get_past, slice_get-get_or, slice_get_cases}
+use Rattle.std.proofs.lemmas.Option.{get_or_from_slice_get, slice_get_within, slice_get_past, slice_get_cases}
 use Rattle.std.proofs.lemmas.List.Sums.{position_or_len_is}
 use Rattle.std.proofs.lemmas.List.Quantifiers.{position-Some}
 use Rattle.std.proofs.lemmas.List.Elements.{Contains-append_right}
@@ -15,7 +15,6 @@ use Rattle.dl_base.proofs.Filters.{false_unless}
 use Rattle.dl_lit.specs.declared.literal.Literal.{Literal}
 use Rattle.dl_lit.specs.Literal.{literal_eq, complement}
 use Rattle.dl_lit.specs.Order.{literal_eq-Decides}
-use Rattle.dl_lit.proofs.NamesLemmas.{next_new}
 use Rattle.dl_names.specs.Paired.{IsPaired}
 use Rattle.dl_names.specs.Pairs.{same_atom, same_atom-Decides, pairs_of}
 use Rattle.dl_names.proofs.NameLemmas.{found_at}
@@ -50,7 +49,7 @@ pub pairs_paired : (ps : List Literal) → IsPaired (pairs_of ps)
 pairs_paired [] = tt
 pairs_paired (p ∷ ps) = (refl, pairs_paired ps)
 
-pub pairs_push : (ps : List Literal) (p : Literal) → pairs_of (ps ++ p ∷ []) ≡ pairs_of ps ++ p ∷ complement p ∷ []
+pairs_push : (ps : List Literal) (p : Literal) → pairs_of (ps ++ p ∷ []) ≡ pairs_of ps ++ p ∷ complement p ∷ []
 pairs_push [] p = refl
 pairs_push (v ∷ ps) p = ap (λ ls. v ∷ complement v ∷ ls) (pairs_push ps p)
 
@@ -78,27 +77,6 @@ past_pairs ps n e =
       | inl there ↦ let no : None ≡ Some there.0 = e ∙ there.2 in cc
       | inr past ↦ sym (slice_get_past (pairs_of ps) n (omega (arith, past.0, pairs_len ps)))
     ]
-
-pairs_take : (ps : List Literal) (n k : ℕ) → n ≡ 2 * k → take n (pairs_of ps) ≡ pairs_of (take k ps)
-pairs_take [] zero zero e = refl
-pairs_take [] zero (suc k) e = absurd (omega (arith, e))
-pairs_take [] (suc n) zero e = absurd (omega (arith, e))
-pairs_take [] (suc n) (suc k) e = refl
-pairs_take (p ∷ ps) zero zero e = refl
-pairs_take (p ∷ ps) zero (suc k) e = absurd (omega (arith, e))
-pairs_take (p ∷ ps) (suc zero) k e = absurd (omega (arith, e))
-pairs_take (p ∷ ps) (suc (suc n)) zero e = absurd (omega (arith, e))
-pairs_take (p ∷ ps) (suc (suc n)) (suc k) e = ap (λ ls. p ∷ complement p ∷ ls) (pairs_take ps n k (omega (arith, e)))
-
--- among distinct pairs the next one is not among those before it
-pub next_pair_new : (ps : List Literal) (i : ℕ) (p : Literal) → IsDistinct (pairs_of ps) → i < length ps → p ≡ get_or ps i p
-    → ¬ Contains (pairs_of (take i ps)) p
-next_pair_new ps i p distinct within is m =
-    let at : slice_get (pairs_of ps) (2 * i) ≡ Some p =
-    first_at ps (2 * i) i refl ∙ (slice_get-get_or ps i p within ∙ ap Some (sym is)) in
-    next_new (pairs_of ps) (2 * i) p distinct (omega (arith, within, pairs_len ps))
-    (sym (get_or_from_slice_get (pairs_of ps) (2 * i) p p at))
-    (subst (λ (ls : List Literal). Contains ls p) (sym (pairs_take ps (2 * i) i refl)) m)
 
 -- ---- look-ups
 

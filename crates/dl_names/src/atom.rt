@@ -1,9 +1,10 @@
 //! What is kept of a pair of literals.
 
-ghost use Rattle.std.specs.Prelude.{◌≡◌};
+ghost use Rattle.std.specs.Prelude.{◌≡◌, IfOk};
 ghost use Rattle.std.specs.List.{fold};
 ghost use Rattle.dl_names.specs.Atoms.{pair_hash};
 
+use dl_base::Memory;
 use dl_lit::Name;
 use indexmap::Equivalent;
 use std::hash::{Hash, Hasher};
@@ -19,6 +20,20 @@ pub(crate) struct Atom {
 }
 
 const _: () = prove!(size_of::<Atom>() == 24);
+
+impl Atom {
+    /// An equal pair with a name of its own.
+    pub fn copy(&self) -> Result<Atom, Memory>
+        ensures { IfOk result (λ copy. copy ≡ self.now) }
+    {
+        let name = self.name.copy()?;
+        Ok(Atom {
+            name,
+            mode: self.mode,
+            positive: self.positive,
+        })
+    }
+}
 
 impl PartialEq for Atom {
     ghost use Rattle.std.specs.Cmp.{partial_equiv_from_equiv};

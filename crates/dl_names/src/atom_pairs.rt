@@ -1,15 +1,17 @@
 //! Pairs of literals that are kept by the atom and the number of the mode.
 
-ghost use Rattle.std.specs.Prelude.{◌≡◌, ◌<◌, ◌≤◌, ◌+◌, ◌-◌, ◌/◌, ◌%◌, ◌==◌, ◌^◌, ◌++◌, ◌∷◌, ◌⊎◌, [], IfNone, IfOk, IfSome, OnOk, OnErr, ℕ, List, false, length};
+ghost use Rattle.std.specs.Prelude.{◌≡◌, ◌<◌, ◌≤◌, ◌+◌, ◌-◌, ◌/◌, ◌%◌, ◌==◌, ◌^◌, ◌++◌, ◌∷◌, ◌⊎◌, [], IfNone, IfOk, IfSome, OnOk, OnErr, ℕ, List, Some, false, true, length, position, slice_get};
 ghost use Rattle.std.specs.List.{list_any};
-ghost use Rattle.std.specs.Option.{option_copied};
+ghost use Rattle.std.specs.Option.{option_copied, option_map};
 ghost use Rattle.std.specs.Str.{bytes_eq};
 ghost use Rattle.dl_base.specs.Paths.{IsDistinct};
+ghost use Rattle.dl_lit.specs.declared.literal.Literal.{Literal};
+ghost use Rattle.dl_lit.specs.Borrowed.{literal_of};
 ghost use Rattle.dl_names.specs.Atoms.{mode_at};
+ghost use Rattle.dl_names.specs.Pairs.{same_atom};
 ghost use Rattle.dl_names.specs.Stems.{Knows};
 
 use crate::atom::{Atom, Sought};
-use crate::pair_set::PairSet;
 use crate::stems::Stems;
 use dl_base::Memory;
 use dl_lit::{Literal, LiteralRef, Name, NameSet, name_set};
@@ -22,8 +24,10 @@ const MODE_LIMIT: usize = 0x8000_0000;
 /// As many pairs as can be noted by numbers of 32 bits.
 const NOTED_LIMIT: usize = 0x7fff_ffff;
 
-/// Pairs of which the atom, the sign of the first literal and the number of the mode are kept: a fourth of what two literals take, so
-/// that a look-up seldom waits for memory.
+/// A set of pairs of a literal and its complement, which are found by their mode and atom. A pair stands for the literal that came first.
+///
+/// Of a pair the atom, the sign of the first literal and the number of the mode are kept: a fourth of what two literals take, so that a
+/// look-up seldom waits for memory.
 pub struct AtomPairs {
     /// The modes, by number less one.
     modes: NameSet<Name>,
@@ -55,10 +59,11 @@ impl Model for AtomPairs {
     ghost invariant = { IsKeptAtoms };
 }
 
-impl PairSet for AtomPairs {
-    ghost firsts = { λ s. s };
-
-    fn make(alloc: Global) -> AtomPairs {
+impl AtomPairs {
+    /// No pairs.
+    pub fn make(alloc: Global) -> AtomPairs
+        ensures { result ≡ [] }
+    {
         AtomPairs {
             modes: name_set(alloc),
             atoms: name_set(alloc),
@@ -66,18 +71,27 @@ impl PairSet for AtomPairs {
         }
     }
 
-    fn reserve(&mut self, more: usize) -> Result<(), Memory> {
+    /// Room for so many pairs more. `Memory` where there is none for it.
+    pub fn reserve(&mut self, more: usize) -> Result<(), Memory>
+        ensures { self.new ≡ self.old }
+    {
         self.atoms.reserve(more)?;
         Ok(())
     }
 
+    /// How many pairs there are.
     #[inline(always)]
-    fn len(&self) -> usize {
+    pub fn len(&self) -> usize
+        ensures { result ≡ length self.now }
+    {
         self.atoms.len()
     }
 
+    /// The first literal of the pair at a place; `None` exactly past the last.
     #[inline(always)]
-    fn first(&self, place: usize) -> Option<LiteralRef<'_>> {
+    pub fn first(&self, place: usize) -> Option<LiteralRef<'_>>
+        ensures { option_map literal_of result ≡ slice_get self.now place }
+    {
         match self.atoms.get_index(place) {
             None => None,
             Some(atom) => Some(LiteralRef {
@@ -88,8 +102,13 @@ impl PairSet for AtomPairs {
         }
     }
 
+    /// The place of the pair with the mode and the atom of a literal, and the sign of its first literal; `None` exactly where there is none.
     #[inline(always)]
-    fn find(&self, literal: &Literal) -> Option<(usize, bool)> {
+    pub fn find(&self, literal: &Literal) -> Option<(usize, bool)>
+        ensures place { IfSome result (λ found. Some found.0 ≡ position (same_atom literal.now) self.now) }
+        ensures sign { IfSome result (λ found. (q : Literal) × (slice_get self.now found.0 ≡ Some q) × (found.1 ≡ q.positive)) }
+        ensures absent { IfNone result (list_any (same_atom literal.now) self.now ≡ false) }
+    {
         if literal.mode.is_none() {
             if let Some(number) = self.stems.get(literal.atom.bytes()) {
                 return Some((number as usize / 2, number % 2 == 0));
@@ -107,8 +126,17 @@ impl PairSet for AtomPairs {
         }
     }
 
+    /// Puts a literal in as the first of a new pair, and gives its place; `None` where there is a pair with its mode and its atom. One that is
+    /// likely sought again may be noted, so that it is found faster: no clause tells of it. `Memory` leaves the pairs as they were.
     #[inline(always)]
-    fn put(&mut self, literal: &Literal, likely_sought: bool) -> Result<Option<usize>, Memory> {
+    pub fn put(&mut self, literal: &Literal, likely_sought: bool) -> Result<Option<usize>, Memory>
+        ensures new { IfOk result (λ put. IfSome put (λ place. list_any (same_atom literal.now) self.old ≡ false)) }
+        ensures place { IfOk result (λ put. IfSome put (λ place. place ≡ length self.old)) }
+        ensures added { IfOk result (λ put. IfSome put (λ place. self.new ≡ self.old ++ literal.now ∷ [])) }
+        ensures old { IfOk result (λ put. IfNone put (list_any (same_atom literal.now) self.old ≡ true)) }
+        ensures there { IfOk result (λ put. IfNone put (self.new ≡ self.old)) }
+        ensures kept { OnErr result (self.new ≡ self.old) }
+    {
         let mode = number_mode(&mut self.modes, &literal.mode)?;
         let name = literal.atom.copy()?;
         let (place, new) = self.atoms.insert_full(Atom {
@@ -123,6 +151,45 @@ impl PairSet for AtomPairs {
         note(&mut self.stems, alloc, literal, mode, place, likely_sought);
         Ok(Some(place))
     }
+
+    /// The same pairs once more. `Memory` where there is none for them. Nothing is noted of them: each is found in the table.
+    pub fn copy(&self) -> Result<AtomPairs, Memory>
+        ensures { IfOk result (λ copy. copy ≡ self.now) }
+    {
+        let modes = copied_modes(&self.modes)?;
+        let atoms = copied_atoms(&self.atoms)?;
+        Ok(AtomPairs {
+            modes,
+            atoms,
+            stems: Stems::make(*self.atoms.allocator()),
+        })
+    }
+}
+
+/// The same modes at the same numbers once more.
+fn copied_modes(modes: &NameSet<Name>) -> Result<NameSet<Name>, Memory>
+    ensures { IfOk result (λ set. set.keys ≡ modes.now.keys) }
+{
+    let mut set = name_set(*modes.allocator());
+    set.reserve(modes.len())?;
+    let all = modes.as_slice();
+    for mode in all {
+        set.insert(mode.copy()?)?;
+    }
+    Ok(set)
+}
+
+/// The same atoms at the same places once more.
+fn copied_atoms(atoms: &NameSet<Atom>) -> Result<NameSet<Atom>, Memory>
+    ensures { IfOk result (λ set. set.keys ≡ atoms.now.keys) }
+{
+    let mut set = name_set(*atoms.allocator());
+    set.reserve(atoms.len())?;
+    let all = atoms.as_slice();
+    for atom in all {
+        set.insert(atom.copy()?)?;
+    }
+    Ok(set)
 }
 
 /// Notes where the pair of a literal stands that has no mode, where it is likely sought, its atom ends in a number and there is room.

@@ -1,17 +1,14 @@
 //! Numbers of literals.
 
 ghost use Rattle.std.specs.Prelude.{◌≡◌, ◌<◌, ◌+◌, ◌*◌, ◌^◌, ◌++◌, ◌∷◌, [], Some, false, IfOk, IfSome, IfNone, OnOk, OnErr, IsTrue, Contains, length, position, slice_get};
-ghost use Rattle.std.specs.Option.{option_copied, option_map};
+ghost use Rattle.std.specs.Option.{option_map};
 ghost use Rattle.dl_base.specs.Paths.{IsDistinct};
 ghost use Rattle.dl_lit.specs.Borrowed.{literal_of};
 ghost use Rattle.dl_lit.specs.Literal.{literal_eq, complement};
 ghost use Rattle.dl_lit.specs.Names.{no_names, with_both};
 ghost use Rattle.dl_names.specs.Paired.{IsPaired, flip};
-ghost use Rattle.dl_names.specs.Pairs.{firsts_of, pairs_of};
 
-use crate::both::Both;
-use crate::pair_set::PairSet;
-use crate::whole_pairs::WholePairs;
+use crate::atom_pairs::AtomPairs;
 use dl_base::Memory;
 use dl_lit::{Literal, LiteralRef};
 use std::alloc::Global;
@@ -21,12 +18,12 @@ use std::marker::Model;
 const PAIR_LIMIT: usize = 0x8000_0000;
 
 /// Literals by number, each beside its complement. One look-up finds both.
-pub struct PairedNames<P: PairSet> {
-    pairs: P,
+pub struct PairedNames {
+    pairs: AtomPairs,
     frozen: bool,
 }
 
-impl<P: PairSet> Drop for PairedNames<P> {
+impl Drop for PairedNames {
     fn drop(self) {
         let PairedNames {
             pairs: _,
@@ -35,34 +32,34 @@ impl<P: PairSet> Drop for PairedNames<P> {
     }
 }
 
-impl<P: PairSet> Model for PairedNames<P> {
+impl Model for PairedNames {
     ghost use Rattle.dl_lit.specs.Names.{Numbering};
 
     ghost Value = { Numbering };
 
     ghost use Rattle.dl_names.specs.KeptNames.{numbering_of, IsKeptNames};
 
-    ghost view = { numbering_of P.firsts };
+    ghost view = { numbering_of };
 
-    ghost invariant = { IsKeptNames P.firsts };
+    ghost invariant = { IsKeptNames };
 }
 
-impl<P: PairSet> PairedNames<P> {
+impl PairedNames {
     /// No literals.
-    pub fn make(alloc: Global) -> PairedNames<P>
+    pub fn make(alloc: Global) -> PairedNames
         ensures { result ≡ no_names }
     {
         PairedNames {
-            pairs: P::make(alloc),
+            pairs: AtomPairs::make(alloc),
             frozen: false,
         }
     }
 
     /// No literals, with room for so many pairs. `Memory` where there is none for them.
-    pub fn with_room(alloc: Global, pairs: usize) -> Result<PairedNames<P>, Memory>
+    pub fn with_room(alloc: Global, pairs: usize) -> Result<PairedNames, Memory>
         ensures { IfOk result (λ names. names ≡ no_names) }
     {
-        let mut empty = P::make(alloc);
+        let mut empty = AtomPairs::make(alloc);
         empty.reserve(pairs)?;
         Ok(PairedNames {
             pairs: empty,
@@ -194,46 +191,18 @@ impl<P: PairSet> PairedNames<P> {
         self.frozen = true;
         Ok(())
     }
-}
-
-impl PairedNames<WholePairs> {
-    /// The literal with this number, which is kept as one; `None` exactly past the last.
-    pub fn whole(&self, number: usize) -> Option<&Literal>
-        ensures { option_copied result ≡ slice_get self.now.literals number }
-    {
-        match self.pairs.set.get_index(number / 2) {
-            None => None,
-            Some(both) => {
-                if number % 2 == 0 {
-                    Some(both.first())
-                } else {
-                    Some(both.second())
-                }
-            }
-        }
-    }
 
     /// The same literals at the same numbers once more, frozen. `Memory` where there is none for them.
-    pub fn share(&self) -> Result<PairedNames<WholePairs>, Memory>
+    pub fn share(&self) -> Result<PairedNames, Memory>
         requires { IsTrue self.now.frozen }
         ensures { IfOk result (λ names. names ≡ self.now) }
     {
-        let mut names = copied(*self.pairs.set.allocator(), self.pairs.set.as_slice())?;
-        names.frozen = true;
-        Ok(names)
+        let pairs = self.pairs.copy()?;
+        Ok(PairedNames {
+            pairs,
+            frozen: true,
+        })
     }
-}
-
-/// The names of these pairs.
-fn copied(alloc: Global, pairs: &[Both]) -> Result<PairedNames<WholePairs>, Memory>
-    requires { IsDistinct (pairs_of (firsts_of pairs.now)) }
-    ensures { IfOk result (λ names. names.literals ≡ pairs_of (firsts_of pairs.now)) }
-{
-    let mut names = PairedNames::with_room(alloc, pairs.len())?;
-    for both in pairs {
-        names.number(both.first(), true)?;
-    }
-    Ok(names)
 }
 
 /// The number of the complement: literals stand beside their complements.

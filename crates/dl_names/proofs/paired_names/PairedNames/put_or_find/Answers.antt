@@ -10,7 +10,7 @@ use Rattle.dl_names.proofs.PairLemmas.{numbered}
 use Rattle.dl_names.proofs.paired_names.PairedNames.put_or_find.Goals as goal
 
 pub returns-in-Some-clause-named : goal.returns-in-Some-clause-named
-returns-in-Some-clause-named g c =
+returns-in-Some-clause-named c =
     let ls : List Literal = c.args.self.now.literals in
     let q : Literal = c.args.literal.now in
     let none : ¬ Contains ls q = subst (λ (o : Option ℕ). IfSome o (λ n. ¬ Contains ls q)) c.in-Some.is c.in_ok-number.ensures.absent in
@@ -18,7 +18,7 @@ returns-in-Some-clause-named g c =
     ∙ sym (both_new ls q c.len-len.ensures.paired none)
 
 pub returns-in-Some-clause-distinct : goal.returns-in-Some-clause-distinct
-returns-in-Some-clause-distinct g c =
+returns-in-Some-clause-distinct c =
     let ls : List Literal = c.args.self.now.literals in
     let q : Literal = c.args.literal.now in
     let none : ¬ Contains ls q = subst (λ (o : Option ℕ). IfSome o (λ n. ¬ Contains ls q)) c.in-Some.is c.in_ok-number.ensures.absent in
@@ -27,7 +27,7 @@ returns-in-Some-clause-distinct g c =
     subst (λ (ks : List Literal). IsDistinct ks) (sym added) (both_distinct ls q c.len-len.ensures.paired c.len-len.ensures.distinct none)
 
 pub returns-in-Some-clause-paired : goal.returns-in-Some-clause-paired
-returns-in-Some-clause-paired g c =
+returns-in-Some-clause-paired c =
     let ls : List Literal = c.args.self.now.literals in
     let q : Literal = c.args.literal.now in
     let added : c.put.new.self.literals ≡ ls ++ q ∷ complement q ∷ [] =
@@ -35,17 +35,17 @@ returns-in-Some-clause-paired g c =
     subst (λ (ks : List Literal). IsPaired ks) (sym added) (paired_push ls q c.len-len.ensures.paired)
 
 pub returns-in-Some-clause-number : goal.returns-in-Some-clause-number
-returns-in-Some-clause-number g c =
+returns-in-Some-clause-number c =
     let ls : List Literal = c.args.self.now.literals in
     let q : Literal = c.args.literal.now in
     let added : c.put.new.self.literals ≡ ls ++ q ∷ complement q ∷ [] =
     subst (λ (o : Option ℕ). IfSome o (λ n. c.put.new.self.literals ≡ ls ++ q ∷ complement q ∷ [])) c.in-Some.is c.in_ok-number.ensures.added in
     let first : c.in-Some.number ≡ length ls =
     subst (λ (o : Option ℕ). IfSome o (λ n. n ≡ length ls)) c.in-Some.is c.in_ok-number.ensures.number in
-    numbered c.put.new.self.literals ls q c.in-Some.number (returns-in-Some-clause-distinct g c) added first
+    numbered c.put.new.self.literals ls q c.in-Some.number (returns-in-Some-clause-distinct c) added first
 
 pub returns-in-Some-find-clause-named : goal.returns-in-Some-find-clause-named
-returns-in-Some-find-clause-named g c =
+returns-in-Some-find-clause-named c =
     let old : Numbering = c.args.self.now in
     let new : Numbering = c.put.new.self in
     let q : Literal = c.args.literal.now in

@@ -11,7 +11,7 @@ use Rattle.dl_names.specs.KeptAtoms.{Tells}
 use Rattle.dl_names.specs.Pairs.{same_atom}
 use Rattle.dl_names.proofs.AtomLemmas.{after_error, any_of_map, all_by_number, firsts_kept, firsts_put, first_put, modes_kept, key_added, key_there, key_place, not_true, not_false}
 use Rattle.dl_names.proofs.NotedLemmas.{told_new, told_more}
-use Rattle.dl_names.proofs.atom_pairs.AtomPairsPairSet.put.Goals as goal
+use Rattle.dl_names.proofs.atom_pairs.AtomPairs.put.Goals as goal
 
 -- a pair with the mode and the atom of a literal is there by its numbers, or by its literals
 any_kept : (q : Literal) (modes : List (List ℕ)) (atoms : List Atom) (a : Atom) (firsts : List Literal) → IsDistinct modes → a.mode ≤ length modes

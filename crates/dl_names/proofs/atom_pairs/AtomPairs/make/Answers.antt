@@ -7,7 +7,7 @@ use Rattle.dl_base.proofs.Distinct.{distinct_nil}
 use Rattle.dl_names.specs.declared.atom.Atom.{Atom}
 use Rattle.dl_names.specs.Atoms.{atom_eq}
 use Rattle.dl_names.proofs.NotedLemmas.{none_twice}
-use Rattle.dl_names.proofs.atom_pairs.AtomPairsPairSet.make.Goals as goal
+use Rattle.dl_names.proofs.atom_pairs.AtomPairs.make.Goals as goal
 
 pub invariant_of-result : goal.invariant_of-result
 invariant_of-result c = record {

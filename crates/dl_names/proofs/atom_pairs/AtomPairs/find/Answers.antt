@@ -10,7 +10,7 @@ use Rattle.dl_names.specs.Pairs.{same_atom}
 use Rattle.dl_names.specs.Stems.{Knows}
 use Rattle.dl_names.proofs.AtomLemmas.{any_of_map, position_of_map, none_by_number, all_by_number}
 use Rattle.dl_names.proofs.NotedLemmas.{none_is, told_place, told_sign}
-use Rattle.dl_names.proofs.atom_pairs.AtomPairsPairSet.find.Goals as goal
+use Rattle.dl_names.proofs.atom_pairs.AtomPairs.find.Goals as goal
 
 pub returns-in-None-clause-absent : goal.returns-in-None-clause-absent
 returns-in-None-clause-absent c =
