@@ -1,6 +1,6 @@
 //! The marks of a part, copied from those of the whole.
 
-ghost use Rattle.std.specs.Prelude.{◌≡◌, ℕ, Bool, ◌<◌, length, All, Contains, IfNone, IfOk, IfSome, IsTrue, not};
+ghost use Rattle.std.specs.Prelude.{◌≡◌, ℕ, Bool, ◌<◌, length, All, Contains, IfNone, IfOk, IfSome, OnOk, IsTrue, not};
 ghost use Rattle.dl_lit.specs.declared.literal.Tag.{Tag};
 ghost use Rattle.dl_theory.specs.Marks.{AreRight};
 ghost use Rattle.dl_marks.specs.Marks.{places, marked, is_owned};
@@ -101,7 +101,8 @@ fn source(net: &Net, found: &Found, literal: &Literal) -> Option<usize>
     }
 }
 
-/// Copies the marks of a literal of the part. Where it is none of those that matter, the marks of a new number are right.
+/// Copies the marks of a literal of the part. Where it is none of those that matter, the marks of a new number are right. `Memory` where
+/// there is none for the literal that is sought.
 fn copy_number<L: Ledger>(
     net: &Net,
     marks: &Marks,
@@ -110,7 +111,7 @@ fn copy_number<L: Ledger>(
     number: usize,
     copy: &mut Marks,
     steps: &mut Steps<L>,
-)
+) -> Result<(), Memory>
     requires right { AreRight net.now.theory net.now.names (places marks.now) (stands marks.now) }
     requires found { All (λ n. n < length net.now.names) found.now.members }
     requires closed { HasAllBehind net.now.theory (IsOf net.now found.now.members) }
@@ -118,14 +119,18 @@ fn copy_number<L: Ledger>(
     requires number { number < length small.now.names }
     requires owned { IsTrue (is_owned copy.old number) }
     requires fresh { (t : Tag) → marked copy.old t number ≡ not t.plus }
-    ensures exact { AreExactAt small.now copy.new number }
+    ensures exact { OnOk result (AreExactAt small.now copy.new number) }
     ensures others { (t : Tag) (n : ℕ) → ¬ (n ≡ number) → marked copy.new t n ≡ marked copy.old t n }
     ensures places { places copy.new ≡ places copy.old }
     ensures owned { (n : ℕ) → is_owned copy.new n ≡ is_owned copy.old n }
 {
-    match source(net, found, small.literal(number)) {
-        Some(from) => copy_row(marks, from, copy, number, steps),
-        None => {}
+    let literal = small.literal(number).copy()?;
+    match source(net, found, &literal) {
+        Some(from) => {
+            copy_row(marks, from, copy, number, steps);
+            Ok(())
+        }
+        None => Ok(()),
     }
 }
 
@@ -152,7 +157,7 @@ fn copied<L: Ledger>(
     let mut copy = Marks::make(alloc);
     copy.grown(names, &mut steps)?;
     for number in 0..names {
-        copy_number(net, marks, found, small, number, &mut copy, &mut steps);
+        copy_number(net, marks, found, small, number, &mut copy, &mut steps)?;
     }
     Ok(copy)
 }

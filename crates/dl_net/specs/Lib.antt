@@ -14,4 +14,3 @@ pub mod FromNumbers
 pub mod KeptGraph
 pub mod KeptNumbered
 pub mod KeptNumberedNet
-pub mod GraphNames

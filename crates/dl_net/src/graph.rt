@@ -5,10 +5,9 @@ ghost use Rattle.dl_lit.specs.Borrowed.{literal_of};
 ghost use Rattle.dl_lit.specs.Literal.{literal_eq};
 ghost use Rattle.dl_theory.specs.Lists.{IsWellFormed};
 
-use crate::graph_names::GraphNames;
 use crate::staged::Staged;
 use dl_lit::{Literal, LiteralRef, Name, NameSet};
-use dl_names::other;
+use dl_names::{PairedNames, other};
 use dl_rows::Table;
 use dl_rules::Index;
 use dl_theory::RulePairs;
@@ -33,7 +32,7 @@ pub(crate) struct Kept<'a> {
 
 /// A theory by numbers with its indexes, borrowed from what keeps them.
 pub struct Graph<'a> {
-    pub(crate) names: GraphNames<'a>,
+    pub(crate) names: &'a PairedNames,
     /// By number, whether the literal is a fact.
     pub(crate) facts: &'a Table<bool>,
     pub(crate) index: &'a Index,

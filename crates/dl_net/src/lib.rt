@@ -9,7 +9,6 @@
 
 mod edits;
 mod graph;
-mod graph_names;
 mod labels;
 mod link;
 mod links;

@@ -15,7 +15,7 @@ ghost use Rattle.std.specs.List.{flat_map};
 
 use crate::number::number_rule;
 use dl_base::Memory;
-use dl_names::{PairSet, PairedNames, WholePairs, other};
+use dl_names::{PairedNames, other};
 use dl_rows::Region;
 use dl_rules::{BLOCK, Index, Lines, LinkCounts};
 use dl_theory::{Rule, RulePairs, Theory};
@@ -25,7 +25,7 @@ use std::alloc::Global;
 /// is empty.
 pub(crate) fn index_of(
     alloc: Global,
-    names: &mut PairedNames<WholePairs>,
+    names: &mut PairedNames,
     theory: &Theory,
 ) -> Result<Index, Memory>
     requires { IsPaired names.old.literals }
@@ -52,7 +52,7 @@ pub(crate) fn index_of(
 pub(crate) fn room_for_rule(
     alloc: Global,
     rule: &Rule,
-    names: &mut PairedNames<WholePairs>,
+    names: &mut PairedNames,
     index: &mut Index,
 ) -> Result<(), Memory>
     requires { IsPaired names.old.literals }
@@ -71,10 +71,10 @@ pub(crate) fn room_for_rule(
 }
 
 /// One more rule, whose literals and their complements get numbers.
-pub(crate) fn load_rule<P: PairSet>(
+pub(crate) fn load_rule(
     alloc: Global,
     rule: &Rule,
-    names: &mut PairedNames<P>,
+    names: &mut PairedNames,
     seen: &mut Region,
     lines: &mut Lines,
 ) -> Result<(), Memory>
@@ -97,7 +97,7 @@ pub(crate) fn load_rule<P: PairSet>(
 /// Rules by the numbers of their literals, which get some beside their complements where they have none.
 fn load_rules(
     alloc: Global,
-    names: &mut PairedNames<WholePairs>,
+    names: &mut PairedNames,
     lines: &mut Lines,
     rules: &[Rule],
 ) -> Result<(), Memory>
@@ -119,9 +119,9 @@ fn load_rules(
 }
 
 /// Which rules stand below and above each rule, where these are the pairs.
-pub(crate) fn load_pairs<P: PairSet>(
+pub(crate) fn load_pairs(
     index: &mut Index,
-    names: &PairedNames<P>,
+    names: &PairedNames,
     pairs: &RulePairs,
 ) -> Result<(), Memory>
     requires heads { All (IsWithin (length names.now.literals)) index.old.lines }
@@ -160,9 +160,9 @@ fn have_room(index: &Index, pairs: &RulePairs, from: usize) -> bool
 }
 
 /// The rules of a pair, below and above each other where their heads attack each other.
-fn load_pair<P: PairSet>(
+fn load_pair(
     index: &mut Index,
-    names: &PairedNames<P>,
+    names: &PairedNames,
     upper: usize,
     lower: usize,
 ) -> Result<(), Memory>
@@ -182,9 +182,9 @@ fn load_pair<P: PairSet>(
 }
 
 /// Whether the head of one rule is attacked by that of another.
-pub(crate) fn meet<P: PairSet>(
+pub(crate) fn meet(
     index: &Index,
-    names: &PairedNames<P>,
+    names: &PairedNames,
     upper: usize,
     lower: usize,
 ) -> bool

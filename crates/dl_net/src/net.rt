@@ -6,20 +6,20 @@ ghost use Rattle.dl_net.specs.Above.{lower_step, upper_step};
 ghost use Rattle.dl_names.specs.Paired.{IsPaired};
 ghost use Rattle.dl_net.specs.Named.{HasLiterals, HasFacts, line_in};
 ghost use Rattle.std.specs.Option.{option_copied};
+ghost use Rattle.dl_lit.specs.Borrowed.{literal_of};
 ghost use Rattle.dl_lit.specs.Literal.{literal_eq};
 ghost use Rattle.dl_theory.specs.Lists.{IsWellFormed};
 ghost use Rattle.dl_theory.specs.Edits.{HasLabel};
 ghost use Rattle.dl_theory.specs.Listings.{Mentions};
 
 use crate::graph::{Graph, Source};
-use crate::graph_names::GraphNames;
 use crate::link::Link;
 use crate::load::index_of;
 use crate::number::mark_facts;
 use crate::staged::Staged;
 use dl_base::Memory;
-use dl_lit::{Literal, Name};
-use dl_names::{PairedNames, WholePairs};
+use dl_lit::{Literal, LiteralRef, Name};
+use dl_names::PairedNames;
 use dl_rows::Table;
 use dl_rules::Index;
 use dl_theory::{Pair, Rule, Theory};
@@ -31,7 +31,7 @@ use std::marker::Model;
 /// A literal's number stays; literal and complement stand beside each other. A rule's number is its place in the list.
 pub struct Net {
     pub(crate) staged: Staged,
-    pub(crate) names: PairedNames<WholePairs>,
+    pub(crate) names: PairedNames,
     /// By number, whether the literal is a fact.
     pub(crate) facts: Table<bool>,
     pub(crate) index: Index,
@@ -92,7 +92,7 @@ impl Net {
     /// A net of these parts.
     pub(crate) fn whole(
         theory: Theory,
-        names: PairedNames<WholePairs>,
+        names: PairedNames,
         facts: Table<bool>,
         index: Index,
         frozen: bool,
@@ -127,7 +127,7 @@ impl Net {
         ensures { result ≡ record self.now { pending = None; frozen = false } }
     {
         Graph {
-            names: GraphNames::Whole(&self.names),
+            names: &self.names,
             facts: &self.facts,
             index: &self.index,
             source: Source::Staged(&self.staged),
@@ -153,14 +153,11 @@ impl Net {
     }
 
     /// The literal with this number.
-    pub fn literal(&self, number: usize) -> &Literal
+    pub fn literal(&self, number: usize) -> LiteralRef<'_>
         requires { number < length self.now.names }
-        ensures { result.now ≡ literal_at self.now number }
+        ensures { literal_of result ≡ literal_at self.now number }
     {
-        match self.names.whole(number) {
-            Some(literal) => literal,
-            None => unreachable!(),
-        }
+        self.graph().literal(number)
     }
 
     /// The number of the complement.

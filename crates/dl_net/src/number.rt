@@ -10,7 +10,7 @@ ghost use Rattle.dl_rules.specs.Lines.{once_or};
 
 use dl_base::Memory;
 use dl_lit::Literal;
-use dl_names::{PairSet, PairedNames, WholePairs};
+use dl_names::PairedNames;
 use dl_rows::{Region, Row, Table};
 use dl_rules::{BodyNumbers, Entry};
 use dl_theory::{Kind, Rule};
@@ -21,8 +21,8 @@ const BODY_LIMIT: usize = 0x400_0000;
 
 /// The number of a literal, which gets one beside its complement if it has none. One that is likely to be new is put in before it is sought.
 #[inline(always)]
-fn number_literal<P: PairSet>(
-    names: &mut PairedNames<P>,
+fn number_literal(
+    names: &mut PairedNames,
     literal: &Literal,
     likely_new: bool,
 ) -> Result<u32, Memory>
@@ -40,9 +40,9 @@ fn number_literal<P: PairSet>(
 
 /// The numbers of literals, which get some beside their complements where they have none.
 #[inline(always)]
-fn number_literals<P: PairSet>(
+fn number_literals(
     alloc: Global,
-    names: &mut PairedNames<P>,
+    names: &mut PairedNames,
     literals: &[Literal],
 ) -> Result<Row, Memory>
     requires paired { IsPaired names.old.literals }
@@ -64,9 +64,9 @@ fn number_literals<P: PairSet>(
 /// A rule by the numbers of its literals, which get some beside their complements where they have none.
 // inlined always, with what it calls: the rule's numbers are then made where they are kept
 #[inline(always)]
-pub(crate) fn number_rule<P: PairSet>(
+pub(crate) fn number_rule(
     alloc: Global,
-    names: &mut PairedNames<P>,
+    names: &mut PairedNames,
     seen: &mut Region,
     rule: &Rule,
 ) -> Result<Entry, Memory>
@@ -176,8 +176,8 @@ fn once_len(numbers: &[u32]) -> usize
 }
 
 /// The number of a fact, which gets one beside its complement if it has none, and a mark that is not set.
-pub(crate) fn number_fact<P: PairSet>(
-    names: &mut PairedNames<P>,
+pub(crate) fn number_fact(
+    names: &mut PairedNames,
     marks: &mut Table<bool>,
     fact: &Literal,
 ) -> Result<u32, Memory>
@@ -201,7 +201,7 @@ pub(crate) fn number_fact<P: PairSet>(
 
 /// Marks one more fact, by its number.
 fn mark_fact(
-    names: &mut PairedNames<WholePairs>,
+    names: &mut PairedNames,
     marks: &mut Table<bool>,
     fact: &Literal,
 ) -> Result<(), Memory>
@@ -221,7 +221,7 @@ fn mark_fact(
 /// By number, whether the literal is a fact. Facts get numbers beside their complements where they have none.
 pub(crate) fn mark_facts(
     alloc: Global,
-    names: &mut PairedNames<WholePairs>,
+    names: &mut PairedNames,
     facts: &[Literal],
 ) -> Result<Table<bool>, Memory>
     requires { IsPaired names.old.literals }

@@ -13,7 +13,7 @@ use crate::load::load_rule;
 use crate::number::number_fact;
 use dl_base::Memory;
 use dl_lit::{Literal, Name, NameSet, name_set};
-use dl_names::{AtomPairs, PairedNames};
+use dl_names::PairedNames;
 use dl_rows::{Region, Table};
 use dl_rules::Lines;
 use dl_theory::{
@@ -32,7 +32,7 @@ pub struct NumberedTheory {
     /// The facts by number, in the order in which they came.
     pub(crate) order: Table<u32>,
     pub(crate) pairs: RulePairs,
-    pub(crate) names: PairedNames<AtomPairs>,
+    pub(crate) names: PairedNames,
     /// By number, whether the literal is a fact.
     pub(crate) facts: Table<bool>,
     /// The rules by the numbers of their literals. They are found by these when all are there.
@@ -164,7 +164,7 @@ fn label_there(label: &Name) -> EditStop
 }
 
 /// Whether a literal is a fact, by the marks of facts.
-fn holds_fact(names: &PairedNames<AtomPairs>, marks: &Table<bool>, fact: &Literal) -> bool
+fn holds_fact(names: &PairedNames, marks: &Table<bool>, fact: &Literal) -> bool
     ensures { (qs : List Literal) → All (Contains names.now.literals) qs → HasFacts names.now.literals qs marks.now.items → (IsTrue result ↔ Contains qs fact.now) }
 {
     match names.find(fact) {

@@ -3,12 +3,11 @@
 ghost use Rattle.std.specs.Prelude.{◌≡◌, IfOk};
 
 use crate::graph::{Graph, Kept, Source};
-use crate::graph_names::GraphNames;
 use crate::load::load_pairs;
 use crate::numbered::NumberedTheory;
 use dl_base::Memory;
 use dl_lit::{Name, NameSet};
-use dl_names::{AtomPairs, PairedNames};
+use dl_names::PairedNames;
 use dl_rows::Table;
 use dl_rules::{Index, LinkCounts};
 use dl_theory::RulePairs;
@@ -21,7 +20,7 @@ pub struct NumberedNet {
     /// The facts by number, in the order in which they came.
     order: Table<u32>,
     pairs: RulePairs,
-    names: PairedNames<AtomPairs>,
+    names: PairedNames,
     /// By number, whether the literal is a fact.
     facts: Table<bool>,
     index: Index,
@@ -87,7 +86,7 @@ impl NumberedNet {
     {
         let _count = self.names.len();
         Graph {
-            names: GraphNames::Atoms(&self.names),
+            names: &self.names,
             facts: &self.facts,
             index: &self.index,
             source: Source::Kept(Kept {

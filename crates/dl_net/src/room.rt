@@ -16,7 +16,7 @@ use crate::number::number_fact;
 use crate::staged::Staged;
 use dl_base::Memory;
 use dl_lit::Literal;
-use dl_names::{PairedNames, WholePairs};
+use dl_names::PairedNames;
 use dl_rows::Table;
 use dl_rules::Index;
 use dl_theory::{Edit, Pair};
@@ -27,7 +27,7 @@ pub(crate) fn take_room(
     alloc: Global,
     edit: &Edit,
     staged: &Staged,
-    names: &mut PairedNames<WholePairs>,
+    names: &mut PairedNames,
     facts: &mut Table<bool>,
     index: &mut Index,
 ) -> Result<(), Memory>
@@ -55,7 +55,7 @@ pub(crate) fn take_room(
 /// Room for a fact, which gets a number with its complement.
 fn room_for_fact(
     fact: &Literal,
-    names: &mut PairedNames<WholePairs>,
+    names: &mut PairedNames,
     facts: &mut Table<bool>,
 ) -> Result<(), Memory>
     requires { IsPaired names.old.literals }
@@ -73,7 +73,7 @@ fn room_for_fact(
 fn room_for_pair(
     pair: &Pair,
     staged: &Staged,
-    names: &PairedNames<WholePairs>,
+    names: &PairedNames,
     index: &mut Index,
 ) -> Result<(), Memory>
     requires labels { HasBoth staged.now.theory pair.now }

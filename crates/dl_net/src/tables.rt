@@ -12,7 +12,7 @@ ghost use Rattle.dl_net.specs.Named.{HasFacts, HasLiterals, line_in};
 use crate::load::meet;
 use crate::staged::Staged;
 use dl_lit::{Literal, Name};
-use dl_names::{PairedNames, WholePairs};
+use dl_names::PairedNames;
 use dl_rows::Table;
 use dl_rules::Index;
 use dl_theory::{Edit, Pair, Rule};
@@ -21,7 +21,7 @@ use dl_theory::{Edit, Pair, Rule};
 pub(crate) fn change_tables(
     edit: &Edit,
     staged: &Staged,
-    names: &PairedNames<WholePairs>,
+    names: &PairedNames,
     facts: &mut Table<bool>,
     index: &mut Index,
 )
@@ -43,7 +43,7 @@ pub(crate) fn change_tables(
 }
 
 /// The rule for which there is room goes last.
-fn add_rule(_rule: &Rule, _staged: &Staged, _names: &PairedNames<WholePairs>, index: &mut Index)
+fn add_rule(_rule: &Rule, _staged: &Staged, _names: &PairedNames, index: &mut Index)
     requires accepted { IsAccepted _staged.now.theory (Edit.AddRule _rule.now) }
     requires ready { index.old.ready ≡ Some (line_in _names.now.literals _rule.now) }
     requires index { HasIndex (numbered _staged.now.theory _names.now.literals) index.old }
@@ -69,7 +69,7 @@ fn drop_rule(label: &Name, staged: &Staged, index: &mut Index)
 fn add_fact(
     fact: &Literal,
     _staged: &Staged,
-    names: &PairedNames<WholePairs>,
+    names: &PairedNames,
     facts: &mut Table<bool>,
 )
     requires named { Contains names.now.literals fact.now }
@@ -87,7 +87,7 @@ fn add_fact(
 fn drop_fact(
     fact: &Literal,
     staged: &Staged,
-    names: &PairedNames<WholePairs>,
+    names: &PairedNames,
     facts: &mut Table<bool>,
 )
     requires accepted { IsAccepted staged.now.theory (Edit.DropFact fact.now) }
@@ -103,7 +103,7 @@ fn drop_fact(
 }
 
 /// Where the rules of a pair meet, the lower one goes below the upper one.
-fn add_pair(pair: &Pair, staged: &Staged, names: &PairedNames<WholePairs>, index: &mut Index)
+fn add_pair(pair: &Pair, staged: &Staged, names: &PairedNames, index: &mut Index)
     requires accepted { IsAccepted staged.now.theory (Edit.AddPair pair.now) }
     requires distinct { IsDistinct names.now.literals }
     requires paired { IsPaired names.now.literals }

@@ -1,21 +1,21 @@
-//! Pairs of literals in both forms, with and without modes.
+//! Pairs of literals, with and without modes.
 
 ghost use Rattle.std.specs.Prelude.{◌<◌, length};
 
 use crate::literals::literal_of;
 use dl_lit::Literal;
-use dl_names::{AtomPairs, PairSet, WholePairs};
+use dl_names::AtomPairs;
 use std::alloc::Global;
 use std::process::Abort;
 
 /// Three pairs are put in, one of them twice, and found again by either literal.
-fn pairs_stand<P: PairSet>(rt: &impl Abort, alloc: Global) {
+fn pairs_stand(rt: &impl Abort, alloc: Global) {
     let fly = literal_of(rt, alloc, "fly");
     let no_fly = literal_of(rt, alloc, "-fly");
     let must_not_fly = literal_of(rt, alloc, "[O]-fly");
     let may_fly = literal_of(rt, alloc, "[P]fly");
     let must_sing = literal_of(rt, alloc, "[O]sing");
-    let mut pairs = P::make(alloc);
+    let mut pairs = AtomPairs::make(alloc);
     pairs.reserve(2).expect(rt, "room");
     assert_eq!(rt; pairs.put(&fly, true).expect(rt, "room"), Some(0));
     assert_eq!(rt; pairs.put(&no_fly, true).expect(rt, "room"), None);
@@ -60,7 +60,7 @@ const PAIRS: [&str; 24] = [
 ];
 
 /// A pair is found at its place by either literal, with the sign of the first.
-fn is_found<P: PairSet>(rt: &impl Abort, alloc: Global, pairs: &P, place: usize)
+fn is_found(rt: &impl Abort, alloc: Global, pairs: &AtomPairs, place: usize)
     requires { place < length PAIRS }
 {
     let first = literal_of(rt, alloc, PAIRS[place]);
@@ -70,8 +70,8 @@ fn is_found<P: PairSet>(rt: &impl Abort, alloc: Global, pairs: &P, place: usize)
 }
 
 /// Each pair is put in as the next, and found there before and after the others are.
-fn numbered_pairs_stand<P: PairSet>(rt: &impl Abort, alloc: Global) {
-    let mut pairs = P::make(alloc);
+fn numbered_pairs_stand(rt: &impl Abort, alloc: Global) {
+    let mut pairs = AtomPairs::make(alloc);
     for place in 0..PAIRS.len() {
         let first = literal_of(rt, alloc, PAIRS[place]);
         assert!(rt; pairs.find(&first).is_none());
@@ -87,8 +87,24 @@ fn numbered_pairs_stand<P: PairSet>(rt: &impl Abort, alloc: Global) {
     assert!(rt; pairs.find(&absent).is_none());
 }
 
+/// A copy of pairs has each at its place, and takes a new one behind them.
+fn copied_pairs_stand(rt: &impl Abort, alloc: Global) {
+    let mut pairs = AtomPairs::make(alloc);
+    for place in 0..PAIRS.len() {
+        let first = literal_of(rt, alloc, PAIRS[place]);
+        assert_eq!(rt; pairs.put(&first, true).expect(rt, "room"), Some(place));
+    }
+    let mut copy = pairs.copy().expect(rt, "room");
+    for place in 0..PAIRS.len() {
+        is_found(rt, alloc, &copy, place);
+    }
+    let next = literal_of(rt, alloc, "p0001");
+    assert_eq!(rt; copy.put(&next, true).expect(rt, "room"), Some(PAIRS.len()));
+    assert!(rt; pairs.find(&next).is_none());
+}
+
 /// Whether a copy of the first literal of a pair is this one.
-fn first_is<P: PairSet>(rt: &impl Abort, pairs: &P, place: usize, literal: &Literal) -> bool {
+fn first_is(rt: &impl Abort, pairs: &AtomPairs, place: usize, literal: &Literal) -> bool {
     match pairs.first(place) {
         None => false,
         Some(first) => first.copy().expect(rt, "room") == *literal,
@@ -97,12 +113,15 @@ fn first_is<P: PairSet>(rt: &impl Abort, pairs: &P, place: usize, literal: &Lite
 
 #[test]
 fn pairs_are_found_by_mode_and_atom(rt: HostRuntime) {
-    pairs_stand::<AtomPairs>(&rt, rt.alloc());
-    pairs_stand::<WholePairs>(&rt, rt.alloc());
+    pairs_stand(&rt, rt.alloc());
 }
 
 #[test]
 fn pairs_are_found_by_the_numbers_of_their_atoms(rt: HostRuntime) {
-    numbered_pairs_stand::<AtomPairs>(&rt, rt.alloc());
-    numbered_pairs_stand::<WholePairs>(&rt, rt.alloc());
+    numbered_pairs_stand(&rt, rt.alloc());
+}
+
+#[test]
+fn a_copy_of_pairs_finds_them(rt: HostRuntime) {
+    copied_pairs_stand(&rt, rt.alloc());
 }

@@ -35,7 +35,7 @@ loop-number-preserved g c =
       places = done.places ∙ before.places;
       owned = λ n lt. subst (λ (b : Bool). IsTrue b) (sym (done.owned n)) (before.owned n lt);
       exact = λ n lt. elim (cases_eq n i) [
-        | inl e ↦ subst (λ (k : ℕ). AreExactAt c.args.small.now c.copy_number.new.copy k) (sym e) done.exact
+        | inl e ↦ subst (λ (k : ℕ). AreExactAt c.args.small.now c.copy_number.new.copy k) (sym e) c.in_ok-copy_number.ensures.exact
         | inr apart ↦
             exact_elsewhere c.args.small.now c.loop-number.copy c.copy_number.new.copy n (λ t. done.others t n apart) (before.exact n (omega (arith, lt, apart)))
       ];

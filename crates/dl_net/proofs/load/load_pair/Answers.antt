@@ -5,17 +5,17 @@ use Rattle.dl_net.proofs.AboveLemmas.{lowers_none, lowers_joined, uppers_none, u
 use Rattle.dl_net.proofs.load.load_pair.Goals as goal
 
 pub returns-then-not-meet-clause-lowers : goal.returns-then-not-meet-clause-lowers
-returns-then-not-meet-clause-lowers g c = λ T p r h F e.
+returns-then-not-meet-clause-lowers c = λ T p r h F e.
     e ∙ lowers_none T c.args.names.now.literals c.args.index.now.lines c.len-count.ensures.distinct c.len-count.ensures.paired r.named r.are h.distinct p
     c.args.upper c.args.lower h.upper_within h.lower_within h.upper_label h.lower_label c.meet.result c.meet.ensures c.if-not-meet.true F
 
 pub returns-then-not-meet-clause-uppers : goal.returns-then-not-meet-clause-uppers
-returns-then-not-meet-clause-uppers g c = λ T p r h F e.
+returns-then-not-meet-clause-uppers c = λ T p r h F e.
     e ∙ uppers_none T c.args.names.now.literals c.args.index.now.lines c.len-count.ensures.distinct c.len-count.ensures.paired r.named r.are h.distinct p
     c.args.upper c.args.lower h.upper_within h.lower_within h.upper_label h.lower_label c.meet.result c.meet.ensures c.if-not-meet.true F
 
 pub returns-clause-lowers : goal.returns-clause-lowers
-returns-clause-lowers g c =
+returns-clause-lowers c =
     let u : ℕ = c.args.upper in
     let l : ℕ = c.args.lower in
     on_ok_weaker c.append_link.result
@@ -26,7 +26,7 @@ returns-clause-lowers g c =
     c.append_link.ensures.lowers
 
 pub returns-clause-uppers : goal.returns-clause-uppers
-returns-clause-uppers g c =
+returns-clause-uppers c =
     let u : ℕ = c.args.upper in
     let l : ℕ = c.args.lower in
     on_ok_weaker c.append_link.result

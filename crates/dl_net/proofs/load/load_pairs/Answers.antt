@@ -24,7 +24,7 @@ more_steps f pairs i rules lt =
     λ j. map (λ t. sym (ap (flat_map (λ q. f q t)) more ∙ flat_map-push (λ q. f q t) (take i pairs) p) j) rules
 
 pub loop-at-preserved : goal.loop-at-preserved
-loop-at-preserved g c =
+loop-at-preserved c =
     let i : ℕ = c.loop-at.at in
     let links : RulePairs = c.args.pairs.now in
     let step = c.in_ok-load_pair-in-Some.ensures in

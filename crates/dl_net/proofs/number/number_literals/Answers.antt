@@ -21,27 +21,27 @@ same_by a b c xs i q lt is before now h =
     now (subst (λ (n : Numbering). Contains n.literals q) (sym (before h)) (subst (λ (x : Literal). Contains a.literals x) (sym is) (h i q lt))) ∙ before h
 
 pub returns-in_err-number_literal-clause-same : goal.returns-in_err-number_literal-clause-same
-returns-in_err-number_literal-clause-same g c =
+returns-in_err-number_literal-clause-same c =
     same_by c.args.names.now c.loop-literal.names c.number_literal.new.names c.args.literals.now c.loop-literal.literal-index c.literal-item.result
     c.loop-literal-test.true c.literal-item.is c.loop-literal.invariant.same c.number_literal.ensures.same
 
 pub returns-in_err-push-clause-same : goal.returns-in_err-push-clause-same
-returns-in_err-push-clause-same g c =
+returns-in_err-push-clause-same c =
     same_by c.args.names.now c.loop-literal.names c.number_literal.new.names c.args.literals.now c.loop-literal.literal-index c.literal-item.result
     c.loop-literal-test.true c.literal-item.is c.loop-literal.invariant.same c.number_literal.ensures.same
 
 pub returns-in_err-number_literal-clause-grown : goal.returns-in_err-number_literal-clause-grown
-returns-in_err-number_literal-clause-grown g c =
+returns-in_err-number_literal-clause-grown c =
     grown_by c.args.literals.now c.args.names.now.literals c.loop-literal.names.literals c.number_literal.new.names.literals c.literal-item.result
     (c.loop-literal.literal-index, c.loop-literal-test.true, sym c.literal-item.is) c.loop-literal.invariant.grown c.number_literal.ensures.grown
 
 pub returns-in_err-push-clause-grown : goal.returns-in_err-push-clause-grown
-returns-in_err-push-clause-grown g c =
+returns-in_err-push-clause-grown c =
     grown_by c.args.literals.now c.args.names.now.literals c.loop-literal.names.literals c.number_literal.new.names.literals c.literal-item.result
     (c.loop-literal.literal-index, c.loop-literal-test.true, sym c.literal-item.is) c.loop-literal.invariant.grown c.number_literal.ensures.grown
 
 pub loop-literal-preserved : goal.loop-literal-preserved
-loop-literal-preserved g c =
+loop-literal-preserved c =
     let xs : List Literal = c.args.literals.now in
     let q : Literal = c.literal-item.result in
     let i : ℕ = c.loop-literal.literal-index in
@@ -69,6 +69,6 @@ loop-literal-preserved g c =
     }
 
 pub returns-clause-there : goal.returns-clause-there
-returns-clause-there g c =
+returns-clause-there c =
     subst (λ (ys : List Literal). All (Contains c.loop-literal.names.literals) ys)
     (take_all c.loop-literal.literal-index c.args.literals.now c.loop-literal-test.false) c.loop-literal.invariant.there

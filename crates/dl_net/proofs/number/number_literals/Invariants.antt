@@ -5,7 +5,7 @@ use Rattle.dl_names.specs.Paired.{IsPaired, IsNear, Grows, number_in}
 use Rattle.dl_net.proofs.number.number_literals.Given as goal
 
 abbrev pub invariant-loop-literal : goal.invariant-loop-literal
-invariant-loop-literal g l = record {
+invariant-loop-literal l = record {
   paired : IsPaired l.names.literals;
   distinct : IsDistinct l.names.literals;
   grown : Grows (IsNear l.literals) l.fn.names.literals l.names.literals;

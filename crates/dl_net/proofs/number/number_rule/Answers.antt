@@ -16,22 +16,22 @@ grown_by q body xs a b c is g h =
     (Grows-weaker (IsNear xs) (IsNear (q ∷ body)) b c (λ r k. near_tail q body r (subst (λ (ys : List Literal). IsNear ys r) is k)) h)
 
 pub returns-in_err-head-clause-grown : goal.returns-in_err-head-clause-grown
-returns-in_err-head-clause-grown g c =
+returns-in_err-head-clause-grown c =
     Grows-weaker (IsNear (c.args.rule.now.head ∷ [])) (IsNear (c.args.rule.now.head ∷ c.args.rule.now.body)) c.args.names.now.literals c.number_literal.new.names.literals
     (λ r h. near_head c.args.rule.now.head c.args.rule.now.body r h) c.number_literal.ensures.grown
 
 pub returns-in_err-body-clause-grown : goal.returns-in_err-body-clause-grown
-returns-in_err-body-clause-grown g c =
+returns-in_err-body-clause-grown c =
     grown_by c.args.rule.now.head c.args.rule.now.body c.as_slice.result.now c.args.names.now.literals c.number_literal.new.names.literals
     c.number_literals.new.names.literals c.as_slice.ensures c.number_literal.ensures.grown c.number_literals.ensures.grown
 
 pub returns-clause-grown : goal.returns-clause-grown
-returns-clause-grown g c =
+returns-clause-grown c =
     grown_by c.args.rule.now.head c.args.rule.now.body c.as_slice.result.now c.args.names.now.literals c.number_literal.new.names.literals
     c.number_literals.new.names.literals c.as_slice.ensures c.number_literal.ensures.grown c.number_literals.ensures.grown
 
 pub returns-clause-there : goal.returns-clause-there
-returns-clause-there g c =
+returns-clause-there c =
     let new : List Literal = c.number_literals.new.names.literals in
     ok_from c.entry_of.result (HasLiterals new c.args.rule.now) (
       Grows-keeps (IsNear c.as_slice.result.now) c.number_literal.new.names.literals new c.args.rule.now.head c.number_literals.ensures.grown c.in_ok-head.ensures.there,
@@ -39,7 +39,7 @@ returns-clause-there g c =
     )
 
 pub returns-clause-line : goal.returns-clause-line
-returns-clause-line g c =
+returns-clause-line c =
     let mid : List Literal = c.number_literal.new.names.literals in
     let new : List Literal = c.number_literals.new.names.literals in
     let head : c.in_ok-head.head ≡ number_in new c.args.rule.now.head =
@@ -52,7 +52,7 @@ returns-clause-line g c =
     (λ e is. is ∙ (λ i. record { kind = c.args.rule.now.kind; head = head i; body = body i })) c.entry_of.ensures
 
 pub returns-in_err-head-clause-same : goal.returns-in_err-head-clause-same
-returns-in_err-head-clause-same g c = λ h. c.number_literal.ensures.same h.0
+returns-in_err-head-clause-same c = λ h. c.number_literal.ensures.same h.0
 
 -- names that have the head and the body stay as they are
 same_by : (a b c : Numbering) (head : Literal) (body xs : List Literal) → xs ≡ body → (Contains a.literals head → b ≡ a) → (All (Contains b.literals) xs → c ≡ b)
@@ -62,17 +62,17 @@ same_by a b c head body xs is first rest h =
     rest (subst (λ (n : Numbering). All (Contains n.literals) xs) (sym before) (subst (λ (ys : List Literal). All (Contains a.literals) ys) (sym is) h.1)) ∙ before
 
 pub returns-in_err-body-clause-same : goal.returns-in_err-body-clause-same
-returns-in_err-body-clause-same g c =
+returns-in_err-body-clause-same c =
     same_by c.args.names.now c.number_literal.new.names c.number_literals.new.names c.args.rule.now.head c.args.rule.now.body c.as_slice.result.now c.as_slice.ensures
     c.number_literal.ensures.same c.number_literals.ensures.same
 
 pub returns-clause-same : goal.returns-clause-same
-returns-clause-same g c =
+returns-clause-same c =
     same_by c.args.names.now c.number_literal.new.names c.number_literals.new.names c.args.rule.now.head c.args.rule.now.body c.as_slice.result.now c.as_slice.ensures
     c.number_literal.ensures.same c.number_literals.ensures.same
 
 pub entry_of-requires : goal.entry_of-requires
-entry_of-requires g c =
+entry_of-requires c =
     subst (λ (ns : List ℕ). All (λ n. n < c.len.result) ns) (sym c.in_ok-body.ensures.numbers)
     (numbers_within c.number_literals.new.names.literals c.len.result c.as_slice.result.now c.number_literals.ensures.distinct c.in_ok-body.ensures.there
     (omega (arith, c.len.ensures.len)))

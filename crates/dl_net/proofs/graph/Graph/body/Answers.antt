@@ -7,7 +7,6 @@ use Rattle.dl_theory.specs.declared.rule.Rule.{Rule}
 use Rattle.dl_net.specs.Numbers.{NetLists, no_rule, rule_at, number}
 use Rattle.dl_net.specs.Named.{line_in}
 use Rattle.dl_rules.specs.Lines.{Line, no_line}
-use Rattle.dl_net.specs.GraphNames.{numbering}
 use Rattle.dl_net.specs.KeptGraph.{theory_of}
 use Rattle.dl_net.proofs.graph.Graph.body.Goals as goal
 
@@ -16,12 +15,12 @@ within rule lines rules ls e lt = omega (arith, ap length e, length-map rules (l
 
 pub body-requires : goal.body-requires
 body-requires c =
-    within c.args.rule c.self.inside.index.now.lines (theory_of c.self.inside).rules (numbering c.self.inside.names).literals c.self.invariant.tables.index.lines
+    within c.args.rule c.self.inside.index.now.lines (theory_of c.self.inside).rules c.self.inside.names.now.literals c.self.invariant.tables.index.lines
     (subst (λ (v : NetLists). c.args.rule < length v.theory.rules) (sym c.self.view_is) c.requires)
 
 pub returns : goal.returns
 returns c =
-    let ls : List Literal = (numbering c.self.inside.names).literals in
+    let ls : List Literal = c.self.inside.names.now.literals in
     let lt : c.args.rule < length (theory_of c.self.inside).rules = subst (λ (v : NetLists). c.args.rule < length v.theory.rules) (sym c.self.view_is) c.requires in
     subst (λ (v : NetLists). c.body.result ≡ slice_get (map (number v) (rule_at v c.args.rule).body) c.args.at) c.self.view_is
     (c.body.ensures

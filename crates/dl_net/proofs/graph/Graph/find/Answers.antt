@@ -4,7 +4,6 @@ use Rattle.dl_base.specs.Paths.{IsDistinct}
 use Rattle.dl_lit.specs.declared.literal.Literal.{Literal}
 use Rattle.dl_lit.specs.Literal.{literal_eq}
 use Rattle.dl_net.specs.Numbers.{NetLists, number}
-use Rattle.dl_net.specs.GraphNames.{numbering}
 use Rattle.dl_names.specs.Paired.{number_in}
 use Rattle.dl_names.proofs.NameLemmas.{found_at, number_found}
 use Rattle.dl_net.proofs.graph.Graph.find.Goals as goal
@@ -17,4 +16,4 @@ find_there (Some n) ls q distinct e = ((found_at ls q n (sym e)).0, sym (number_
 pub returns-clause-there : goal.returns-clause-there
 returns-clause-there c =
     subst (λ (v : NetLists). IfSome c.find.result (λ n. (n < length v.names) × (n ≡ number v c.args.literal.now))) c.self.view_is
-    (find_there c.find.result (numbering c.self.inside.names).literals c.args.literal.now c.find.ensures.distinct c.find.ensures.number)
+    (find_there c.find.result c.self.inside.names.now.literals c.args.literal.now c.find.ensures.distinct c.find.ensures.number)

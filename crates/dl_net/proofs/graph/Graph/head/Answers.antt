@@ -6,7 +6,6 @@ use Rattle.dl_theory.specs.declared.rule.Rule.{Rule}
 use Rattle.dl_net.specs.Numbers.{NetLists, no_rule, rule_at, number}
 use Rattle.dl_net.specs.Named.{line_in}
 use Rattle.dl_rules.specs.Lines.{Line, no_line}
-use Rattle.dl_net.specs.GraphNames.{numbering}
 use Rattle.dl_net.specs.KeptGraph.{theory_of, graph_of}
 use Rattle.dl_net.proofs.FindLemmas.{number_finds, head_named}
 use Rattle.dl_net.proofs.graph.Graph.head.Goals as goal
@@ -16,12 +15,12 @@ within rule lines rules ls e lt = omega (arith, ap length e, length-map rules (l
 
 pub head-requires : goal.head-requires
 head-requires c =
-    within c.args.rule c.self.inside.index.now.lines (theory_of c.self.inside).rules (numbering c.self.inside.names).literals c.self.invariant.tables.index.lines
+    within c.args.rule c.self.inside.index.now.lines (theory_of c.self.inside).rules c.self.inside.names.now.literals c.self.invariant.tables.index.lines
     (subst (λ (v : NetLists). c.args.rule < length v.theory.rules) (sym c.self.view_is) c.requires)
 
 pub returns-clause-value : goal.returns-clause-value
 returns-clause-value c =
-    let ls : List Literal = (numbering c.self.inside.names).literals in
+    let ls : List Literal = c.self.inside.names.now.literals in
     let lt : c.args.rule < length (theory_of c.self.inside).rules = subst (λ (v : NetLists). c.args.rule < length v.theory.rules) (sym c.self.view_is) c.requires in
     subst (λ (v : NetLists). c.head.result ≡ number v (rule_at v c.args.rule).head) c.self.view_is
     (c.head.ensures
@@ -30,7 +29,7 @@ returns-clause-value c =
 
 pub returns-clause-within : goal.returns-clause-within
 returns-clause-within c =
-    let ls : List Literal = (numbering c.self.inside.names).literals in
+    let ls : List Literal = c.self.inside.names.now.literals in
     let lt : c.args.rule < length (theory_of c.self.inside).rules = subst (λ (v : NetLists). c.args.rule < length v.theory.rules) (sym c.self.view_is) c.requires in
     let is : c.head.result ≡ number (graph_of c.self.inside) (rule_at (graph_of c.self.inside) c.args.rule).head =
     c.head.ensures

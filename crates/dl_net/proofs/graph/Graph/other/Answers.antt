@@ -2,13 +2,12 @@ use Rattle.std.proofs.Common.{◌≡◌, ◌<◌, ℕ, List, length, sym, ap, su
 use Rattle.dl_lit.specs.declared.literal.Literal.{Literal}
 use Rattle.dl_names.specs.Paired.{flip, number_in}
 use Rattle.dl_net.specs.Numbers.{NetLists, no_literal, number_of_other}
-use Rattle.dl_net.specs.GraphNames.{numbering}
 use Rattle.dl_names.proofs.NameLemmas.{paired_at, number_at}
 use Rattle.dl_net.proofs.graph.Graph.other.Goals as goal
 
 pub returns-clause-other : goal.returns-clause-other
 returns-clause-other c =
-    let ls : List Literal = (numbering c.self.inside.names).literals in
+    let ls : List Literal = c.self.inside.names.now.literals in
     let n : ℕ = c.args.number in
     let lt : n < length ls = subst (λ (v : NetLists). n < length v.names) (sym c.self.view_is) c.requires in
     let at = paired_at ls c.self.invariant.paired n no_literal lt in
@@ -17,7 +16,7 @@ returns-clause-other c =
 
 pub returns-clause-within : goal.returns-clause-within
 returns-clause-within c =
-    let ls : List Literal = (numbering c.self.inside.names).literals in
+    let ls : List Literal = c.self.inside.names.now.literals in
     let n : ℕ = c.args.number in
     let lt : n < length ls = subst (λ (v : NetLists). n < length v.names) (sym c.self.view_is) c.requires in
     let at = paired_at ls c.self.invariant.paired n no_literal lt in

@@ -8,7 +8,6 @@ use Rattle.dl_theory.specs.Lists.{can_support}
 use Rattle.dl_net.specs.Numbers.{NetLists, no_rule, rule_at}
 use Rattle.dl_net.specs.Named.{line_in}
 use Rattle.dl_rules.specs.Lines.{Line, no_line}
-use Rattle.dl_net.specs.GraphNames.{numbering}
 use Rattle.dl_net.specs.KeptGraph.{theory_of}
 use Rattle.dl_net.proofs.graph.Graph.supports.Goals as goal
 
@@ -25,4 +24,4 @@ returns c =
     subst (λ (v : NetLists). c.supports.result ≡ can_support (rule_at v c.args.rule).kind) c.self.view_is
     (c.supports.ensures
     ∙ ap (λ (xs : List Line). can_support (get_or xs c.args.rule no_line).kind) c.self.invariant.tables.index.lines
-    ∙ ap can_support (kind_there (numbering c.self.inside.names).literals (theory_of c.self.inside).rules c.args.rule))
+    ∙ ap can_support (kind_there c.self.inside.names.now.literals (theory_of c.self.inside).rules c.args.rule))

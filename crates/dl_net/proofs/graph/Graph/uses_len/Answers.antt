@@ -4,14 +4,13 @@ use Rattle.dl_rows.specs.Rows.{places}
 use Rattle.dl_net.specs.Numbers.{NetLists, body_row}
 use Rattle.dl_net.specs.Named.{line_in}
 use Rattle.dl_rules.specs.Lines.{Line, uses_row}
-use Rattle.dl_net.specs.GraphNames.{numbering}
 use Rattle.dl_net.specs.KeptGraph.{theory_of}
 use Rattle.dl_rules.proofs.PlaceLemmas.{places-map}
 use Rattle.dl_net.proofs.graph.Graph.uses_len.Goals as goal
 
 pub returns : goal.returns
 returns c =
-    let ls : List Literal = (numbering c.self.inside.names).literals in
+    let ls : List Literal = c.self.inside.names.now.literals in
     subst (λ (v : NetLists). c.uses_len.result ≡ length (places (body_row v) v.theory.rules c.args.number)) c.self.view_is
     (c.uses_len.ensures
     ∙ ap (λ (xs : List Line). length (places uses_row xs c.args.number)) c.self.invariant.tables.index.lines
