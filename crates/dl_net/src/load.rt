@@ -182,12 +182,7 @@ fn load_pair(
 }
 
 /// Whether the head of one rule is attacked by that of another.
-pub(crate) fn meet(
-    index: &Index,
-    names: &PairedNames,
-    upper: usize,
-    lower: usize,
-) -> bool
+pub(crate) fn meet(index: &Index, names: &PairedNames, upper: usize, lower: usize) -> bool
     requires upper { upper < length index.now.lines }
     requires lower { lower < length index.now.lines }
     requires few { (get_or index.now.lines upper no_line).head < length names.now.literals }

@@ -200,11 +200,7 @@ pub(crate) fn number_fact(
 }
 
 /// Marks one more fact, by its number.
-fn mark_fact(
-    names: &mut PairedNames,
-    marks: &mut Table<bool>,
-    fact: &Literal,
-) -> Result<(), Memory>
+fn mark_fact(names: &mut PairedNames, marks: &mut Table<bool>, fact: &Literal) -> Result<(), Memory>
     requires { IsPaired names.old.literals }
     ensures paired { OnOk result (IsPaired names.new.literals) }
     ensures distinct { OnOk result (IsDistinct names.new.literals) }

@@ -66,12 +66,7 @@ fn drop_rule(label: &Name, staged: &Staged, index: &mut Index)
 }
 
 /// A literal becomes a fact.
-fn add_fact(
-    fact: &Literal,
-    _staged: &Staged,
-    names: &PairedNames,
-    facts: &mut Table<bool>,
-)
+fn add_fact(fact: &Literal, _staged: &Staged, names: &PairedNames, facts: &mut Table<bool>)
     requires named { Contains names.now.literals fact.now }
     requires room { number_in names.now.literals fact.now < length facts.old.items }
     requires facts { HasFacts names.now.literals _staged.now.theory.facts facts.old.items }
@@ -84,12 +79,7 @@ fn add_fact(
 }
 
 /// A literal is no fact any more.
-fn drop_fact(
-    fact: &Literal,
-    staged: &Staged,
-    names: &PairedNames,
-    facts: &mut Table<bool>,
-)
+fn drop_fact(fact: &Literal, staged: &Staged, names: &PairedNames, facts: &mut Table<bool>)
     requires accepted { IsAccepted staged.now.theory (Edit.DropFact fact.now) }
     requires named { All (Contains names.now.literals) staged.now.theory.facts }
     requires facts { HasFacts names.now.literals staged.now.theory.facts facts.old.items }

@@ -13,7 +13,7 @@ returns-in-Some-clause-exact g c =
     c.copy_row.new.copy c.args.number c.in-Some.from c.in-Some.ensures.within c.in-Some.ensures.there
     (c.in-Some.ensures.same ∙ c.in_ok-literal.ensures ∙ c.literal.ensures) c.copy_row.ensures.here
 
-pub returns-in-None-clause-exact : goal.returns-in-None-clause-exact
-returns-in-None-clause-exact g c =
+pub returns-clause-exact : goal.returns-clause-exact
+returns-clause-exact g c =
     fresh_exact c.args.net.now c.args.small.now c.args.marks.now c.requires.right c.args.found.now.members c.requires.closed c.requires.part
     c.args.copy.now c.args.number (subst (λ (q : Literal). ¬ IsOf c.args.net.now c.args.found.now.members q) (c.in_ok-literal.ensures ∙ c.literal.ensures) c.in-None.ensures.absent) c.requires.fresh
