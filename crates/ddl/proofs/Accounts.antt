@@ -11,24 +11,16 @@ use Rattle.dl_calls.specs.declared.entry.Entry.{Entry}
 use Rattle.dl_lines.specs.declared.reader.TheConstants.{MOST_BYTES}
 use Rattle.dl_session.specs.declared.end.End.{End}
 use Rattle.dl_session.specs.declared.end.End.TheVariants.{Done, ReadFault, WriteFault, Spent}
-use Rattle.dl_session.specs.Ends.{HasCause, HandsOnAll}
-use Rattle.dl_sessions.specs.Served.{Told, IsServed, AllAt}
+use Rattle.dl_session.specs.Ends.{HasCause}
+use Rattle.dl_sessions.specs.Served.{Told, IsSessionIn, IsServed, AllAt}
 use Rattle.dl_journal.specs.Names.{output_name, output_names, is_among}
 use Rattle.dl_journal.specs.Streams.{settled_all, AreFresh, begun}
 use Rattle.dl_journal.proofs.Names.{same_name, bytes_eq-sym, or_false}
 use Rattle.dl_journal.proofs.Settled.{IsSettled}
 use Rattle.ddl.specs.declared.status.Status.TheVariants as status
-use Rattle.ddl.specs.Serve.{Account, AreSessionsOf, IsHandedOn, IsAccountOf, ends_status, ends_of}
+use Rattle.ddl.specs.Serve.{Account, AreSessionsOf, IsAccountOf, ends_status, ends_of}
 use Rattle.ddl.specs.Serving.{Closed, last_told, closed_ends}
 use Rattle.ddl.specs.Whole.{TakesAtMost}
-
--- what a sink handed on of what it was to get
-handed_so : (end : End) (handed known : Option (List ℕ)) (written : List ℕ) → known ≡ Some written → HandsOnAll handed known end → (front : List ℕ) × (handed ≡ Some front) × IsHandedOn end front written
-handed_so Done handed known written is all = (written, all ∙ is, refl)
-handed_so ReadFault handed known written is all = (written, all ∙ is, refl)
-handed_so Spent handed known written is all = (written, all ∙ is, refl)
-handed_so WriteFault None known written is all = absurd (cc (is, all.1))
-handed_so WriteFault (Some front) known written is all = let same : written ≡ front ++ all.0 = cc (is, all.1) in (front, refl, (all.0, same))
 
 -- the counts of streams that began at 0, added to others
 cause_added : (end : End) (a b r w : ℕ) → HasCause 0 r 0 w end → HasCause a (raised a r) b (raised b w) end
@@ -38,13 +30,28 @@ cause_added WriteFault a b r w h = (omega (arith, h.0), omega (arith, h.1))
 cause_added Spent a b r w h = (omega (arith, h.0), omega (arith, h.1))
 
 module _ (T : TheoryLists) (history : List Entry) where
+  -- a session by what its sink handed on
+  pub record IsHandedOn (seat : ℕ) (t : Told) (c : Closed) : Type 0 where
+    pub session : IsSessionIn T history seat t.rest c.0.rest t.handed c.0.handed c.1
+    pub cause : HasCause t.read_faults c.0.read_faults t.write_faults c.0.write_faults c.1
+
   abbrev pub Each : ℕ → List Told → List Closed → Type 0
-  Each k streams sessions = AllAt (λ seat t c. IsServed T history seat t c.0 c.1) k streams sessions
+  Each k streams sessions = AllAt IsHandedOn k streams sessions
+
+  -- nothing is held back at first
+  pub each : (tells : Bool) (house : HouseState) (k : ℕ) (names : List (List ℕ)) (streams : List Told) (sessions : List Closed) → AreFresh tells house names streams
+      → AllAt (λ seat t c. IsServed T history seat t c.0 c.1) k streams sessions → Each k streams sessions
+  each tells house k names [] [] fresh all = tt
+  each tells house k names [] (c ∷ cs) fresh all = absurd all
+  each tells house k names (t ∷ ts) [] fresh all = absurd all
+  each tells house k [] (t ∷ ts) (c ∷ cs) fresh all = absurd fresh
+  each tells house k (n ∷ ns) (t ∷ ts) (c ∷ cs) fresh all =
+      (record { session = all.0.handed (fresh.0.handed ∙ sym fresh.0.written); cause = all.0.cause }, each tells house (k + 1) ns ts cs fresh.1 all.1)
 
   abbrev pub accounts : (k : ℕ) (streams : List Told) (sessions : List Closed) → Each k streams sessions → List Account
   accounts k [] sessions all = []
   accounts k (t ∷ ts) [] all = []
-  accounts k (t ∷ ts) (c ∷ cs) all = record { taken = all.0.taken; left = c.0.rest; output = all.0.written; end = c.1 } ∷ accounts (k + 1) ts cs all.1
+  accounts k (t ∷ ts) (c ∷ cs) all = record { taken = all.0.session.taken; left = c.0.rest; output = all.0.session.written; end = c.1 } ∷ accounts (k + 1) ts cs all.1
 
   pub accounts_count : (k : ℕ) (streams : List Told) (sessions : List Closed) (all : Each k streams sessions) → length (accounts k streams sessions all) ≡ length sessions
   accounts_count k [] [] all = refl
@@ -62,7 +69,7 @@ module _ (T : TheoryLists) (history : List Entry) where
   accounts_sessions k [] [] all = tt
   accounts_sessions k [] (c ∷ cs) all = absurd all
   accounts_sessions k (t ∷ ts) [] all = absurd all
-  accounts_sessions k (t ∷ ts) (c ∷ cs) all = (record { entries = all.0.entries; own = all.0.own; ends = all.0.ends }, accounts_sessions (k + 1) ts cs all.1)
+  accounts_sessions k (t ∷ ts) (c ∷ cs) all = (record { entries = all.0.session.entries; own = all.0.session.own; ends = all.0.session.ends }, accounts_sessions (k + 1) ts cs all.1)
 
   -- What the house says of them, once standard output was settled too.
   module _ (tells : Bool) (old mid opened new : HouseState) (handed : Option (List ℕ)) (faults : ℕ) (holds : mid.holds ≡ old.holds) (share : opened.share ≡ old.share) (share_out : opened.share_out ≡ old.share_out) where
@@ -90,13 +97,11 @@ module _ (T : TheoryLists) (history : List Entry) where
         let zero : HasCause 0 c.0.read_faults 0 c.0.write_faults c.1 = subst (λ (a : ℕ). HasCause a c.0.read_faults 0 c.0.write_faults c.1) fresh.0.read_faults
         (subst (λ (b : ℕ). HasCause t.read_faults c.0.read_faults b c.0.write_faults c.1) fresh.0.write_faults one.cause) in (
           record {
-            input = sym (ap (λ (f : List ℕ → Option (List ℕ)). f n) holds) ∙ sym fresh.0.rest ∙ one.took;
+            input = sym (ap (λ (f : List ℕ → Option (List ℕ)). f n) holds) ∙ sym fresh.0.rest ∙ one.session.took;
             left = is.left;
-            within = one.within;
+            within = one.session.within;
             output = λ (told : tells ≡ true).
-                let got : c.0.written ≡ Some one.written = one.wrote ∙ ap (λ (w : Option (List ℕ)). append_known w one.written) (fresh.0.written ∙ ap begun told) in
-                let hands = handed_so c.1 c.0.handed c.0.written one.written got (one.handed (fresh.0.handed ∙ sym fresh.0.written)) in
-                (hands.0, wrote ∙ hands.1, hands.2);
+                wrote ∙ one.session.wrote ∙ ap (λ (w : Option (List ℕ)). append_known w one.session.written) (fresh.0.handed ∙ ap begun told);
             cause = subst (λ (r : ℕ). HasCause (old.share n) r (old.share_out (output_name n)) (final.share_out (output_name n)) c.1) (sym read)
                 (subst (λ (w : ℕ). HasCause (old.share n) (raised (old.share n) c.0.read_faults) (old.share_out (output_name n)) w c.1) (sym written)
                 (cause_added c.1 (old.share n) (old.share_out (output_name n)) c.0.read_faults c.0.write_faults zero));

@@ -30,7 +30,7 @@ use Rattle.ddl.specs.Words.{Serve}
 use Rattle.dl_lines.proofs.Calls.{prepend_known-none}
 use Rattle.dl_journal.proofs.Names.{same_name}
 use Rattle.ddl.proofs.Naming.{AreServable, standard_apart}
-use Rattle.ddl.proofs.Accounts.{Each, accounts, accounts_count, accounts_ends, accounts_sessions, accounts_told, never_less, all_done, one_failed, takes_of}
+use Rattle.ddl.proofs.Accounts.{Each, each, accounts, accounts_count, accounts_ends, accounts_sessions, accounts_told, never_less, all_done, one_failed, takes_of}
 
 -- the names can be opened where only standard output is open
 pub may_open : (house : HouseState) (theory : List ℕ) (names : List (List ℕ)) → AreServable theory names → ((name : List ℕ) → house.open_in name ≡ false)
@@ -73,7 +73,7 @@ module _ (tells : Bool) (old mid new : HouseState) (theory : List ℕ) (names : 
   -- the sessions were served
   module _ (streams : List Told) (fresh : AreFresh tells mid names streams) (closes : ClosesHall tells full new T names streams handed faults ends) (count : length closes.sessions ≡ length names) where
     abbrev all : Each T closes.history 0 streams closes.sessions
-    all = closes.served.each
+    all = each T closes.history tells mid 0 names streams closes.sessions fresh closes.served.each
 
     abbrev them : List Account
     them = accounts T closes.history 0 streams closes.sessions all
@@ -240,7 +240,7 @@ module _ (tells : Bool) (old mid new : HouseState) (theory : List ℕ) (names : 
 
   same_count : (streams : List Told) → AreFresh tells mid names streams → (closes : ClosesHall tells full new T names streams handed faults ends) → length streams ≡ length names
       → length closes.sessions ≡ length names
-  same_count streams fresh closes count = by 0 streams closes.sessions closes.served.each ∙ count
+  same_count streams fresh closes count = by 0 streams closes.sessions (each T closes.history tells mid 0 names streams closes.sessions fresh closes.served.each) ∙ count
     where
       by : (j : ℕ) (ts : List Told) (cs : List Closed) → Each T closes.history j ts cs → length cs ≡ length ts
       by j [] [] each = refl

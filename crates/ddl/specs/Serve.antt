@@ -21,15 +21,15 @@ use Rattle.ddl.specs.declared.status.Status.{Status}
 use Rattle.ddl.specs.declared.status.Status.TheVariants as status
 use Rattle.ddl.specs.Theories.{IsTheoryFile}
 
--- a session: what it took of its input and what it left of it, what it wrote, and how it ended
+-- a session: what it took of its input and what it left of it, what its output got, and how it ended
 pub record Account : Type 0 where
   pub taken : List ℕ
   pub left : Option (List ℕ)
   pub output : List ℕ
   pub end : End
 
--- The entries of a seat are its enrolment and those of its session, which took, wrote and ended as a session with these entries does,
--- by the editions of the whole history.
+-- The entries of a seat are its enrolment and those of its session. What it took, what its output got and how it ended are those of a
+-- session with these entries, by the editions of the whole history.
 pub record IsSessionOf (T : TheoryLists) (history : List Entry) (seat : ℕ) (account : Account) : Type 0 where
   pub entries : List Entry
   pub own : entries_of seat history ≡ enrolment seat ∷ entries
@@ -49,19 +49,12 @@ pub record AreServed (T : TheoryLists) (history : List Entry) (accounts : List A
   pub sessions : AreSessionsOf T history 0 accounts
   pub spelled : All IsSpelled history
 
--- all of an output was handed on, or a front of it where a write or a flush failed
-abbrev pub IsHandedOn : End → List ℕ → List ℕ → Type 0
-IsHandedOn Done handed output = handed ≡ output
-IsHandedOn ReadFault handed output = handed ≡ output
-IsHandedOn WriteFault handed output = IsFront handed output
-IsHandedOn Spent handed output = handed ≡ output
-
--- What the house has of a session under its name. A count of faults rose only by an end of its own.
+-- What the house has of a session under its name: the output is what was handed on. A count of faults rose only by an end of its own.
 pub record IsAccountOf (tells : Bool) (old new : HouseState) (name : List ℕ) (account : Account) : Type 0 where
   pub input : old.holds name ≡ prepend_known account.taken account.left
   pub left : new.left name ≡ account.left
   pub within : length account.taken ≤ MOST_BYTES
-  pub output : IsTrue tells → (handed : List ℕ) × (new.wrote (output_name name) ≡ Some handed) × IsHandedOn account.end handed account.output
+  pub output : IsTrue tells → new.wrote (output_name name) ≡ Some account.output
   pub cause : HasCause (old.share name) (new.share name) (old.share_out (output_name name)) (new.share_out (output_name name)) account.end
 
 -- how the program ends after its sessions: by the first that is not done

@@ -1,5 +1,6 @@
 mod Answering
 mod Counted
+mod Handing
 mod Held
 mod Lists
 mod Numbered

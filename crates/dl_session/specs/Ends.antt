@@ -2,7 +2,7 @@
 use Rattle.std.specs.Prelude.{◌≡◌, ◌⊎◌, ℕ, ◌<◌, ◌≤◌, List, [], ◌∷◌, ◌++◌, length, Option}
 use Rattle.std.specs.Io.KnownBytes.{prepend_known, append_known, IsAtEnd}
 use Rattle.dl_io.specs.Outside.{Rose}
-use Rattle.dl_io.specs.Streams.{IsFront, IsKnownFront}
+use Rattle.dl_io.specs.Streams.{IsFront}
 use Rattle.dl_theory.specs.Lists.{TheoryLists}
 use Rattle.dl_calls.specs.declared.entry.Entry.{Entry}
 use Rattle.dl_turn.specs.History.{StartsWith}
@@ -27,7 +27,7 @@ AreFirstLines taken rest lines = StartsWith (whole_lines taken) lines ⊎ ((line
 abbrev pub IsQuit : List ℕ → Type 0
 IsQuit line = (length line ≤ LONGEST_LINE) × Asks line asked.Quit
 
--- By the editions, the seat's entries, what was taken of the input and what it has left, and what was written:
+-- By the editions, the seat's entries, what was taken of the input and what it has left, and what was written, or handed on:
 module _ (S : List TheoryLists) (entries : List Entry) (taken : List ℕ) (rest : Option (List ℕ)) (written : List ℕ) where
   -- the first `quit` was met, and all lines before it were answered
   pub record Quits : Type 0 where
@@ -67,14 +67,8 @@ HasCause read read_now written written_now ReadFault = Rose read read_now × (wr
 HasCause read read_now written written_now WriteFault = (read_now ≡ read) × Rose written written_now
 HasCause read read_now written written_now Spent = (read_now ≡ read) × (written_now ≡ written)
 
--- By an end, all that was written was handed on, or a front of it where the sink failed.
-abbrev pub HandsOnAll : Option (List ℕ) → Option (List ℕ) → End → Type 0
-HandsOnAll handed written Done = handed ≡ written
-HandsOnAll handed written ReadFault = handed ≡ written
-HandsOnAll handed written WriteFault = IsKnownFront handed written
-HandsOnAll handed written Spent = handed ≡ written
-
--- a session: what it took of its source, what it wrote, the further entries of its seat, and its end over these
+-- A session: what it took of its source, what it wrote, the further entries of its seat, and its end over these. The two states of the
+-- sink are what was written before and after; what was handed on takes their place where it is said of that.
 pub record IsSession (source source_now sink sink_now : Option (List ℕ)) (seat seat_now : SeatLists) (end : End) : Type 0 where
   pub taken : List ℕ
   pub written : List ℕ

@@ -1,6 +1,7 @@
 pub mod Answering
 pub mod Ends
 pub mod Laws
+pub mod Lent
 pub mod Replies
 pub mod Seats
 pub mod Serving

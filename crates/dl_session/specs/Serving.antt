@@ -2,7 +2,7 @@
 use Rattle.std.specs.Prelude.{◌≡◌, ℕ, ◌<◌, List, length, Option, Some, None}
 use Rattle.std.specs.Io.KnownBytes.{append_known}
 use Rattle.dl_io.specs.Outside.{Rose}
-use Rattle.dl_io.specs.Streams.{IsFront}
+use Rattle.dl_io.specs.Streams.{IsFront, IsKnownFront}
 use Rattle.dl_calls.specs.declared.entry.Entry.{Entry}
 use Rattle.dl_edition.specs.Editions.{EditionLists}
 use Rattle.dl_edition.specs.Offices.{SeatLists}
@@ -14,7 +14,7 @@ use Rattle.dl_lines.specs.declared.reader.TheConstants.{LONGEST_LINE}
 use Rattle.dl_session.specs.declared.end.End.{End}
 use Rattle.dl_session.specs.declared.end.End.TheVariants.{Done, ReadFault, WriteFault, Spent}
 use Rattle.dl_session.specs.Answering.{Answers}
-use Rattle.dl_session.specs.Ends.{HandsOnAll, IsQuit}
+use Rattle.dl_session.specs.Ends.{IsQuit}
 use Rattle.dl_session.specs.Replies.{Replies}
 
 -- how a session ends where its lines ended so
@@ -31,10 +31,13 @@ Sends sink sink_now text (Some ReadFault) = ⊥
 Sends sink sink_now text (Some WriteFault) = (front : List ℕ) × IsFront front text × (sink_now ≡ append_known sink front)
 Sends sink sink_now text (Some Spent) = ⊥
 
--- all that was written was handed on, and so also while the session goes on
-abbrev pub HandsOnBy : Option (List ℕ) → Option (List ℕ) → Option End → Type 0
-HandsOnBy handed written None = handed ≡ written
-HandsOnBy handed written (Some end) = HandsOnAll handed written end
+-- All that was written is handed on. Where a write or a flush failed, a front of it is, and all that was handed on before.
+abbrev pub HandsOnBy : Option (List ℕ) → Option (List ℕ) → Option (List ℕ) → Option End → Type 0
+HandsOnBy handed handed_now written None = handed_now ≡ written
+HandsOnBy handed handed_now written (Some Done) = handed_now ≡ written
+HandsOnBy handed handed_now written (Some ReadFault) = handed_now ≡ written
+HandsOnBy handed handed_now written (Some WriteFault) = IsKnownFront handed handed_now × IsKnownFront handed_now written
+HandsOnBy handed handed_now written (Some Spent) = handed_now ≡ written
 
 -- the count of the sink rose only at a failure
 abbrev pub HasLineCause : ℕ → ℕ → Option End → Type 0

@@ -3,7 +3,7 @@
 //! `serve_session` is where to begin. It reads lines, calls an office from its seat, asks editions that it holds, and writes a reply to
 //! each request, until a line is `quit`, the input ends, a stream fails or the limit of bytes is read. `specs/Replies` says which reply a
 //! line has, by the history that the seat has seen and by the seat's own entries in it. `specs/Ends` says of each way to end what was
-//! read, answered and written by then, and that it was handed on. A reply is whole before its first byte is written, so want of memory is
+//! read, answered and written by then, and `serve_session` says the same of what was handed on. A reply is whole before its first byte is written, so want of memory is
 //! a reply of its own. The laws in `laws` say what stays so when the history goes on.
 #![tactic(auto)]
 
@@ -11,6 +11,7 @@ mod answer;
 mod calls;
 mod end;
 mod laws;
+mod lent;
 mod query;
 mod ready;
 mod session;

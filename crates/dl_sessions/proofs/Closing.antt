@@ -1,5 +1,5 @@
 -- Seats that are enrolled, jobs at them, and what comes of both when the history is whole.
-use Rattle.std.proofs.Common.{◌≡◌, ℕ, ◌+◌, List, [], ◌∷◌, ◌++◌, All, Some, None, IsSome, length, map, refl, sym, ap, subst, ◌∙◌, arith}
+use Rattle.std.proofs.Common.{◌≡◌, ℕ, ◌+◌, List, [], ◌∷◌, ◌++◌, All, Option, Some, None, IsSome, length, map, refl, sym, ap, subst, ◌∙◌, arith}
 use Rattle.std.proofs.lemmas.List.Elements.{All-nil, All-cons, All-head}
 use Rattle.std.proofs.lemmas.List.{length_push}
 use Rattle.std.specs.List.{AllZip, range_with_len}
@@ -14,11 +14,12 @@ use Rattle.dl_calls.specs.Histories.{IsLegal, state_after, enrolled_seats}
 use Rattle.dl_calls.proofs.Runs.{editions_stay}
 use Rattle.dl_edition.specs.Offices.{SeatLists, Stays, HasCalled}
 use Rattle.dl_session.specs.declared.end.End.{End}
+use Rattle.dl_session.specs.Ends.{IsSession}
 use Rattle.dl_session.specs.Laws.{EndsStay}
 use Rattle.dl_session.specs.Seats.{editions_of}
 use Rattle.dl_sessions.specs.Ending.{MayServe, MayJoin, EndsBy, HasEnded, Closes, Serves}
 use Rattle.dl_sessions.specs.Halls.{IsEnrolled, AreEnrolled, IsReady}
-use Rattle.dl_sessions.specs.Served.{Told, enrolment, IsServed, AllAt, AreServed}
+use Rattle.dl_sessions.specs.Served.{Told, enrolment, IsSessionIn, IsServed, AllAt, AreServed}
 use Rattle.dl_sessions.proofs.Lists.{begins_on, all_first, all_second, at_snoc, at_none, at_last, at_all}
 
 some_tells : {A : Type 0} {x y : A} → Some x ≡ Some y → x ≡ y
@@ -42,14 +43,6 @@ module _ (desk : TableId) (T : TheoryLists) where
     ended_may_join : MayJoin desk seat
     ended_may_join = let a = h.by.session.advances in record { place = a.place ∙ h.enrolled.place; within = a.within }
 
-    -- the entries of its seat
-    ended_numbers : (rest : List (ℕ × List Entry)) × (numbers_of seat ≡ (k, enrolment k ∷ h.by.session.entries) ∷ rest)
-    ended_numbers =
-        let a = h.by.session.advances in
-        let number : seat.number ≡ Some k = a.number ∙ h.enrolled.number in
-        let mine : seat.mine ≡ enrolment k ∷ h.by.session.entries = a.mine ∙ ap (λ l. l ++ h.by.session.entries) h.enrolled.mine in
-        (seat.olds, ap (λ n. with_own n seat.mine seat.olds) number ∙ ap (λ l. (k, l) ∷ seat.olds) mine)
-
     ended_editions : (history : List Entry) → IsLegal T history → StartsWith history seat.seen → StartsWith (state_after T history).editions (editions_of seat)
     ended_editions history legal seen =
         let a = h.by.session.advances in
@@ -57,27 +50,36 @@ module _ (desk : TableId) (T : TheoryLists) where
         subst (λ S. StartsWith (state_after T history).editions (state_after S seat.seen).editions) (sym (a.start ∙ h.enrolled.start))
         (subst (λ l. StartsWith (state_after T l).editions (state_after T seat.seen).editions) (sym seen.1) more.editions)
 
-    -- by a history that has its seat's entries
-    ended_served : (history : List Entry) (count : ℕ) → EndsStay → IsLegal T history → StartsWith history seat.seen
-        → All (HasLines (λ e. e.seat) history count) (numbers_of seat) → IsServed T history k old new end
-    ended_served history count stay legal seen lines =
-        let s = h.by.session in
-        let numbers = ended_numbers in
-        let own = All-head (HasLines (λ e. e.seat) history count) (k, enrolment k ∷ s.entries) numbers.0 (subst (All (HasLines (λ e. e.seat) history count)) numbers.1 lines) in
-        record {
-          taken = s.taken;
-          written = s.written;
-          entries = s.entries;
-          own = sym own.0;
-          took = s.took;
-          within = s.within;
-          wrote = s.wrote;
-          ends = stay (editions_of seat) (state_after T history).editions (ended_editions history legal seen) s.entries s.taken new.rest s.written end s.ends;
-          handed = h.by.handed;
-          cause = h.by.cause;
-          source_name = h.by.source_name;
-          sink_name = h.by.sink_name;
-        }
+    -- By a history that has its seat's entries: what was written, or handed on, is that of a session in it.
+    module _ (history : List Entry) (count : ℕ) (stay : EndsStay) (legal : IsLegal T history) (seen : StartsWith history seat.seen)
+        (lines : All (HasLines (λ e. e.seat) history count) (numbers_of seat)) where
+      session_in : (sink sink_now : Option (List ℕ)) → IsSession old.rest new.rest sink sink_now h.seat seat end → IsSessionIn T history k old.rest new.rest sink sink_now end
+      session_in sink sink_now s =
+          let a = s.advances in
+          let number : seat.number ≡ Some k = a.number ∙ h.enrolled.number in
+          let mine : seat.mine ≡ enrolment k ∷ s.entries = a.mine ∙ ap (λ l. l ++ s.entries) h.enrolled.mine in
+          let numbers : numbers_of seat ≡ (k, enrolment k ∷ s.entries) ∷ seat.olds = ap (λ n. with_own n seat.mine seat.olds) number ∙ ap (λ l. (k, l) ∷ seat.olds) mine in
+          let L = HasLines (λ e. e.seat) history count in
+          let own = All-head L (k, enrolment k ∷ s.entries) seat.olds (subst (All L) numbers lines) in
+          record {
+            taken = s.taken;
+            written = s.written;
+            entries = s.entries;
+            own = sym own.0;
+            took = s.took;
+            within = s.within;
+            wrote = s.wrote;
+            ends = stay (editions_of seat) (state_after T history).editions (ended_editions history legal seen) s.entries s.taken new.rest s.written end s.ends;
+          }
+
+      ended_served : IsServed T history k old new end
+      ended_served = record {
+        session = session_in old.written new.written h.by.session;
+        handed = λ whole. session_in old.handed new.handed (h.by.handed whole);
+        cause = h.by.cause;
+        source_name = h.by.source_name;
+        sink_name = h.by.sink_name;
+      }
 
   module _ {A B : Type 0} (before : A → Told) (after : B → Told) (end : B → End) where
     -- One more session was served, and its seat joined.

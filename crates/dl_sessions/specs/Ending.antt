@@ -7,7 +7,7 @@ use Rattle.dl_calls.specs.declared.entry.Entry.{Entry}
 use Rattle.dl_calls.specs.Histories.{IsLegal}
 use Rattle.dl_edition.specs.Offices.{SeatLists, MayCall}
 use Rattle.dl_session.specs.declared.end.End.{End}
-use Rattle.dl_session.specs.Ends.{IsSession, HasCause, HandsOnAll}
+use Rattle.dl_session.specs.Ends.{IsSession, HasCause}
 use Rattle.dl_sessions.specs.Halls.{IsEnrolled}
 use Rattle.dl_sessions.specs.Served.{Told, IsServed, AllAt}
 
@@ -24,7 +24,7 @@ pub record MayJoin (desk : TableId) (seat : SeatLists) : Type 0 where
 -- what serving a session did to its seat and to what its streams tell
 pub record EndsBy (old new : Told) (seat seat_now : SeatLists) (end : End) : Type 0 where
   pub session : IsSession old.rest new.rest old.written new.written seat seat_now end
-  pub handed : old.handed ≡ old.written → HandsOnAll new.handed new.written end
+  pub handed : old.handed ≡ old.written → IsSession old.rest new.rest old.handed new.handed seat seat_now end
   pub cause : HasCause old.read_faults new.read_faults old.write_faults new.write_faults end
   pub source_name : new.source_name ≡ old.source_name
   pub sink_name : new.sink_name ≡ old.sink_name

@@ -10,7 +10,7 @@ use Rattle.dl_calls.specs.declared.entry.Entry.{Entry}
 use Rattle.dl_calls.specs.Histories.{IsLegal, state_after, entries_of, enrolled_seats}
 use Rattle.dl_lines.specs.declared.reader.TheConstants.{MOST_BYTES}
 use Rattle.dl_session.specs.declared.end.End.{End}
-use Rattle.dl_session.specs.Ends.{IsEnd, HasCause, HandsOnAll}
+use Rattle.dl_session.specs.Ends.{IsEnd, HasCause}
 
 -- what a session's source and sink tell
 pub record Told : Type 0 where
@@ -40,18 +40,22 @@ module _ {I P : Type 0} (rest : I → Option (List ℕ)) (read_faults : I → �
 abbrev pub enrolment : ℕ → Entry
 enrolment seat = record { seat = seat; call = Enrol; reply = Enrolled seat }
 
--- The session of a seat: what it took of its source, what it wrote, the entries of its seat behind the enrolment, and its end over
--- these, by all editions of the whole history.
-pub record IsServed (T : TheoryLists) (history : List Entry) (seat : ℕ) (old new : Told) (end : End) : Type 0 where
+-- A session of a seat in the whole history: what it took of its source, what it wrote, the entries of its seat behind the enrolment,
+-- and its end over these, by all editions. The two states of the sink are what was written before and after, or what was handed on.
+pub record IsSessionIn (T : TheoryLists) (history : List Entry) (seat : ℕ) (source source_now sink sink_now : Option (List ℕ)) (end : End) : Type 0 where
   pub taken : List ℕ
   pub written : List ℕ
   pub entries : List Entry
   pub own : entries_of seat history ≡ enrolment seat ∷ entries
-  pub took : old.rest ≡ prepend_known taken new.rest
+  pub took : source ≡ prepend_known taken source_now
   pub within : length taken ≤ MOST_BYTES
-  pub wrote : new.written ≡ append_known old.written written
-  pub ends : IsEnd (state_after T history).editions entries taken new.rest written end
-  pub handed : old.handed ≡ old.written → HandsOnAll new.handed new.written end
+  pub wrote : sink_now ≡ append_known sink written
+  pub ends : IsEnd (state_after T history).editions entries taken source_now written end
+
+-- A session was served, by what was written. Where its sink held nothing back at first, it was so by what was handed on.
+pub record IsServed (T : TheoryLists) (history : List Entry) (seat : ℕ) (old new : Told) (end : End) : Type 0 where
+  pub session : IsSessionIn T history seat old.rest new.rest old.written new.written end
+  pub handed : old.handed ≡ old.written → IsSessionIn T history seat old.rest new.rest old.handed new.handed end
   pub cause : HasCause old.read_faults new.read_faults old.write_faults new.write_faults end
   pub source_name : new.source_name ≡ old.source_name
   pub sink_name : new.sink_name ≡ old.sink_name
