@@ -12,6 +12,7 @@ use Rattle.dl_net.specs.declared.net.Net.TheInside.{Inside}
 use Rattle.dl_net.specs.Numbers.{NetLists, IsNumbered}
 use Rattle.dl_net.specs.Staged.{StagedLists}
 use Rattle.dl_rows.specs.Listed.{Listed}
+use Rattle.dl_rows.specs.Region.{Numbers}
 use Rattle.dl_rules.specs.Lines.{IndexLists}
 use Rattle.dl_net.specs.Above.{lower_step, upper_step}
 use Rattle.dl_names.specs.Paired.{IsPaired}
@@ -45,9 +46,9 @@ nothing_pending N marks x (Some p) e = cc
 
 -- ---- a net of which nothing is prepared
 
-pub kept_settled : (S : StagedLists) (names : Numbering) (facts : Listed Bool) (x : IndexLists) (f : Bool) → IsWellFormed S.theory → S.pending ≡ None
+pub kept_settled : {seen : Numbers} (S : StagedLists) (names : Numbering) (facts : Listed Bool) (x : IndexLists) (f : Bool) → IsWellFormed S.theory → S.pending ≡ None
     → IsDistinct names.literals → IsPaired names.literals → HasTables (numbered S.theory names.literals) facts.items x → (f ≡ true → names.frozen ≡ true)
-    → IsKeptNet (record { staged = S; names = names; facts = facts; index = x; frozen = f })
+    → IsKeptNet (record { staged = S; names = names; facts = facts; index = x; seen = seen; frozen = f })
 kept_settled S names facts x f formed none distinct paired tables frozen =
     let N : NetLists = record { theory = S.theory; names = names.literals; pending = S.pending; frozen = f } in
     record {
@@ -61,10 +62,10 @@ kept_settled S names facts x f formed none distinct paired tables frozen =
     }
 
 -- a net of which an edit is prepared
-pub kept_pending : (S : StagedLists) (names : Numbering) (facts : Listed Bool) (x : IndexLists) (e : Edit) → IsWellFormed S.theory → S.pending ≡ Some e
+pub kept_pending : {seen : Numbers} (S : StagedLists) (names : Numbering) (facts : Listed Bool) (x : IndexLists) (e : Edit) → IsWellFormed S.theory → S.pending ≡ Some e
     → IsDistinct names.literals → IsPaired names.literals → HasTables (numbered S.theory names.literals) facts.items x → IsAccepted S.theory e
     → HasEditRoom S.theory names.literals facts.items x e
-    → IsKeptNet (record { staged = S; names = names; facts = facts; index = x; frozen = false })
+    → IsKeptNet (record { staged = S; names = names; facts = facts; index = x; seen = seen; frozen = false })
 kept_pending S names facts x e formed some distinct paired tables accepted room =
     let N : NetLists = record { theory = S.theory; names = names.literals; pending = S.pending; frozen = false } in
     record {
@@ -85,17 +86,18 @@ pending_is a h e is = subst (λ (o : Option Edit). HasPending (net_of a) a.facts
 -- a net of which nothing is prepared any more, frozen or not
 pub kept_same : (a : Inside) → IsKeptNet a → (S : StagedLists) (names' : Numbering) (f : Bool) → S.theory ≡ a.staged.theory → S.pending ≡ None
     → names'.literals ≡ a.names.literals → (f ≡ true → names'.frozen ≡ true)
-    → IsKeptNet (record { staged = S; names = names'; facts = a.facts; index = a.index; frozen = f })
+    → IsKeptNet (record { staged = S; names = names'; facts = a.facts; index = a.index; seen = a.seen; frozen = f })
 kept_same a h S names' f theory none same frozen =
     let N : NetLists = record { theory = a.staged.theory; names = a.names.literals; pending = S.pending; frozen = f } in
     subst (λ (T : TheoryLists).
-    IsKeptNet (record { staged = record { theory = T; pending = S.pending }; names = names'; facts = a.facts; index = a.index; frozen = f })) (sym theory)
+    IsKeptNet (record { staged = record { theory = T; pending = S.pending }; names = names'; facts = a.facts; index = a.index; seen = a.seen; frozen = f })) (sym theory)
     (subst (λ (ls : List Literal).
     IsKeptNet (record {
       staged = record { theory = a.staged.theory; pending = S.pending };
       names = record { literals = ls; frozen = names'.frozen };
       facts = a.facts;
       index = a.index;
+      seen = a.seen;
       frozen = f;
     })) (sym same)
     (record {
@@ -113,10 +115,10 @@ pub kept_anew : (a : Inside) → IsKeptNet a → a.staged.pending ≡ None → (
     → x.lines ≡ map (line_in names'.literals) a.staged.theory.rules
     → x.lowers ≡ map (λ t. flat_map (λ p. lower_step a.staged.theory p t) a.staged.theory.pairs) a.staged.theory.rules
     → x.uppers ≡ map (λ u. flat_map (λ p. upper_step a.staged.theory p u) a.staged.theory.pairs) a.staged.theory.rules
-    → IsKeptNet (record { staged = a.staged; names = names'; facts = a.facts; index = x; frozen = a.frozen })
+    → IsKeptNet (record { staged = a.staged; names = names'; facts = a.facts; index = x; seen = a.seen; frozen = a.frozen })
 kept_anew a h none names' same x lines lowers uppers =
     let N : NetLists = net_of a in
-    subst (λ (n : Numbering). IsKeptNet (record { staged = a.staged; names = n; facts = a.facts; index = x; frozen = a.frozen })) (sym same)
+    subst (λ (n : Numbering). IsKeptNet (record { staged = a.staged; names = n; facts = a.facts; index = x; seen = a.seen; frozen = a.frozen })) (sym same)
     (record {
       formed = h.formed;
       numbered = h.numbered;
@@ -131,12 +133,12 @@ kept_anew a h none names' same x lines lowers uppers =
 -- a net of which the edit was made that was prepared
 pub kept_made : (a : Inside) → IsKeptNet a → (e : Edit) (S : StagedLists) (facts' : Listed Bool) (x : IndexLists) → IsAccepted (theory_of a) e
     → S.theory ≡ after_edit (theory_of a) e → S.pending ≡ None → HasTables (numbered (after_edit (theory_of a) e) a.names.literals) facts'.items x
-    → IsKeptNet (record { staged = S; names = a.names; facts = facts'; index = x; frozen = false })
+    → IsKeptNet (record { staged = S; names = a.names; facts = facts'; index = x; seen = a.seen; frozen = false })
 kept_made a h e S facts' x accepted changed none made =
     let T : TheoryLists = after_edit (theory_of a) e in
     let N : NetLists = record { theory = T; names = a.names.literals; pending = S.pending; frozen = false } in
     subst (λ (U : TheoryLists).
-    IsKeptNet (record { staged = record { theory = U; pending = S.pending }; names = a.names; facts = facts'; index = x; frozen = false })) (sym changed)
+    IsKeptNet (record { staged = record { theory = U; pending = S.pending }; names = a.names; facts = facts'; index = x; seen = a.seen; frozen = false })) (sym changed)
     (record {
       formed = edit_keeps (theory_of a) e h.formed accepted;
       numbered = record {

@@ -101,6 +101,7 @@ impl Net {
             edit,
             &self.staged,
             &mut self.names,
+            &mut self.seen,
             &mut self.facts,
             &mut self.index,
         );

@@ -53,6 +53,7 @@ pub(crate) fn room_for_rule(
     alloc: Global,
     rule: &Rule,
     names: &mut PairedNames,
+    seen: &mut Region,
     index: &mut Index,
 ) -> Result<(), Memory>
     requires { IsPaired names.old.literals }
@@ -64,8 +65,7 @@ pub(crate) fn room_for_rule(
     ensures kept { KeepsRules index.old index.new }
     ensures ready { OnOk result (index.new.ready ≡ Some (line_in names.new.literals rule.now)) }
 {
-    let mut seen = Region::none(alloc);
-    let entry = number_rule(alloc, names, &mut seen, rule)?;
+    let entry = number_rule(alloc, names, seen, rule)?;
     index.widen(names.len())?;
     index.reserve(entry)
 }

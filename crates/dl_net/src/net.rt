@@ -20,7 +20,7 @@ use crate::staged::Staged;
 use dl_base::Memory;
 use dl_lit::{Literal, LiteralRef, Name};
 use dl_names::PairedNames;
-use dl_rows::Table;
+use dl_rows::{Region, Table};
 use dl_rules::Index;
 use dl_theory::{Pair, Rule, Theory};
 use std::alloc::Global;
@@ -35,6 +35,8 @@ pub struct Net {
     /// By number, whether the literal is a fact.
     pub(crate) facts: Table<bool>,
     pub(crate) index: Index,
+    /// What the last long body met. It is kept for its room, so that an edit makes none by how many names there are.
+    pub(crate) seen: Region,
     pub(crate) frozen: bool,
 }
 
@@ -45,6 +47,7 @@ impl Drop for Net {
             names: _,
             facts: _,
             index: _,
+            seen: _,
             frozen: _,
         } = self;
     }
@@ -112,11 +115,13 @@ impl Net {
     {
         let _count = names.len();
         let _facts = theory.facts_len();
+        let seen = Region::none(facts.alloc());
         Net {
             staged: Staged::of(theory),
             names,
             facts,
             index,
+            seen,
             frozen,
         }
     }

@@ -17,7 +17,7 @@ use crate::staged::Staged;
 use dl_base::Memory;
 use dl_lit::Literal;
 use dl_names::PairedNames;
-use dl_rows::Table;
+use dl_rows::{Region, Table};
 use dl_rules::Index;
 use dl_theory::{Edit, Pair};
 use std::alloc::Global;
@@ -28,6 +28,7 @@ pub(crate) fn take_room(
     edit: &Edit,
     staged: &Staged,
     names: &mut PairedNames,
+    seen: &mut Region,
     facts: &mut Table<bool>,
     index: &mut Index,
 ) -> Result<(), Memory>
@@ -41,7 +42,7 @@ pub(crate) fn take_room(
     ensures room { OnOk result (HasEditRoom staged.now.theory names.new.literals facts.new.items index.new edit.now) }
 {
     let result = match edit {
-        Edit::AddRule(rule) => room_for_rule(alloc, rule, names, index),
+        Edit::AddRule(rule) => room_for_rule(alloc, rule, names, seen, index),
         Edit::AddFact(fact) => room_for_fact(fact, names, facts),
         Edit::AddPair(pair) => room_for_pair(pair, staged, names, index),
         Edit::DropRule(_) => Ok(()),

@@ -31,6 +31,7 @@ invariant_of-self-in-Ok c =
       names = c.index_of.new.names;
       facts = c.self.inside.facts;
       index = x;
+      seen = c.self.inside.seen;
       frozen = c.self.inside.frozen;
     })) (sym c.replace_index.ensures)
     (kept_anew c.self.inside c.self.invariant (ap (λ (v : NetLists). v.pending) c.self.view_is ∙ c.requires) c.index_of.new.names same c.in-Ok.index

@@ -14,6 +14,7 @@ invariant_of-self-in-Ok c =
       names = c.take_room-room.new.names;
       facts = c.take_room-room.new.facts;
       index = c.take_room-room.new.index;
+      seen = c.take_room-room.new.seen;
       frozen = f;
     })) (sym (ap (λ (v : NetLists). v.frozen) c.self.view_is ∙ c.requires.frozen))
     (kept_pending c.stage.new.self c.take_room-room.new.names c.take_room-room.new.facts c.take_room-room.new.index c.args.edit.now
@@ -28,6 +29,7 @@ invariant_of-self-in-Err c =
       names = c.take_room-room.new.names;
       facts = c.take_room-room.new.facts;
       index = c.take_room-room.new.index;
+      seen = c.take_room-room.new.seen;
       frozen = f;
     })) (sym (ap (λ (v : NetLists). v.frozen) c.self.view_is ∙ c.requires.frozen))
     (kept_settled c.forget.new.self c.take_room-room.new.names c.take_room-room.new.facts c.take_room-room.new.index false
