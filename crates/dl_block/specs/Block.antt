@@ -1,6 +1,7 @@
 -- The defeasible family, where ambiguity blocks: its wires and gates.
 use Rattle.std.specs.Prelude.{ℕ, zero, suc, Bool, true, false, cond, Option, Some, List, [], ◌∷◌, length, nat_lt}
-use Rattle.dl_lit.specs.declared.literal.Family.TheVariants.{Definite, Blocking}
+use Rattle.dl_lit.specs.declared.literal.Family.{Family}
+use Rattle.dl_lit.specs.declared.literal.Family.TheVariants.{Definite, Blocking, Propagating, Support}
 use Rattle.dl_lit.specs.declared.literal.Tag.{Tag}
 use Rattle.dl_net.specs.Numbers.{NetLists}
 use Rattle.dl_net.specs.declared.link.Link.TheVariants.{Same, Uses, Backs, Opposes, Defends}
@@ -9,6 +10,8 @@ use Rattle.dl_fill.specs.declared.basis.Basis.{Basis}
 use Rattle.dl_fill.specs.declared.basis.Basis.TheVariants.{Prevailing, Failing}
 use Rattle.dl_fill.specs.declared.wire.Gate.{Gate}
 use Rattle.dl_fill.specs.declared.wire.Gate.TheVariants.{Every, Either, Never}
+use Rattle.dl_fill.specs.Families.{FamilyTable}
+use Rattle.dl_fill.specs.Filled.{either_kind}
 use Rattle.dl_fill.specs.Before.{Before, tag_of, attack_fails, attack_holds, outside_is_on, outside_is_off, on_gate, off_gate, plus_gate, minus_gate}
 
 -- kinds: 0 concluded, 1 refuted, 2 supported, 3 unsupported (of a literal);
@@ -60,3 +63,26 @@ block_gate N b (suc zero) q = cond (nat_lt q (length N.names)) (literal_gate N b
 block_gate N b (suc (suc zero)) q = cond (nat_lt q (length N.names)) (literal_gate N b.marked 2 q) Never
 block_gate N b (suc (suc (suc zero))) q = cond (nat_lt q (length N.names)) (literal_gate N b.marked 3 q) Never
 block_gate N b (suc (suc (suc (suc k)))) r = cond (nat_lt r (length N.theory.rules)) (rule_gate N b k r) Never
+
+-- the family alone is filled
+abbrev pub block_fills : Family → Bool
+block_fills Definite = false
+block_fills Blocking = true
+block_fills Propagating = false
+block_fills Support = false
+
+-- the kind of a literal's node for a sign
+abbrev pub block_kind : Family → Bool → ℕ
+block_kind f plus = either_kind 0 1 plus
+
+abbrev pub block_table : FamilyTable
+block_table = record {
+  width = 8;
+  literals = 4;
+  wires = block_wires;
+  tags = block_tags;
+  bases = block_bases;
+  fills = block_fills;
+  kind = block_kind;
+  below = Definite ∷ [];
+}

@@ -1,6 +1,7 @@
 -- The definite family: its wires and gates.
-use Rattle.std.specs.Prelude.{ℕ, zero, suc, true, false, not, cond, Option, Some, List, [], ◌∷◌, length, nat_lt, ◌&&◌}
-use Rattle.dl_lit.specs.declared.literal.Family.TheVariants.{Definite}
+use Rattle.std.specs.Prelude.{ℕ, zero, suc, Bool, true, false, not, cond, Option, Some, List, [], ◌∷◌, length, nat_lt, ◌&&◌}
+use Rattle.dl_lit.specs.declared.literal.Family.{Family}
+use Rattle.dl_lit.specs.declared.literal.Family.TheVariants.{Definite, Blocking, Propagating, Support}
 use Rattle.dl_lit.specs.declared.literal.Tag.{Tag}
 use Rattle.dl_theory.specs.Lists.{is_strict}
 use Rattle.dl_net.specs.Numbers.{NetLists, rule_at, is_fact}
@@ -8,6 +9,8 @@ use Rattle.dl_net.specs.declared.link.Link.TheVariants.{Uses, Proves}
 use Rattle.dl_fill.specs.declared.wire.Wire.{Wire}
 use Rattle.dl_fill.specs.declared.wire.Gate.{Gate}
 use Rattle.dl_fill.specs.declared.wire.Gate.TheVariants.{Never}
+use Rattle.dl_fill.specs.Families.{FamilyTable}
+use Rattle.dl_fill.specs.Filled.{either_kind}
 use Rattle.dl_fill.specs.Before.{Before, tag_of, outside_is_on, outside_is_off, on_gate, off_gate, some_gate, each_gate}
 
 -- kinds: 0 concluded, 1 refuted (of a literal); 2 on, 3 off (of a rule)
@@ -35,3 +38,26 @@ abbrev pub definite_gate : NetLists → Before → ℕ → ℕ → Gate
 definite_gate N b zero q = cond (nat_lt q (length N.names)) (some_gate (is_fact N q)) Never
 definite_gate N b (suc zero) q = cond (nat_lt q (length N.names)) (each_gate (not (is_fact N q))) Never
 definite_gate N b (suc (suc k)) r = cond (nat_lt r (length N.theory.rules) && is_strict (rule_at N r).kind) (rule_gate N b k r) Never
+
+-- the family alone is filled
+abbrev pub definite_fills : Family → Bool
+definite_fills Definite = true
+definite_fills Blocking = false
+definite_fills Propagating = false
+definite_fills Support = false
+
+-- the kind of a literal's node for a sign
+abbrev pub definite_kind : Family → Bool → ℕ
+definite_kind f plus = either_kind 0 1 plus
+
+abbrev pub definite_table : FamilyTable
+definite_table = record {
+  width = 4;
+  literals = 2;
+  wires = definite_wires;
+  tags = definite_tags;
+  bases = [];
+  fills = definite_fills;
+  kind = definite_kind;
+  below = [];
+}

@@ -1,10 +1,9 @@
 -- Answers that fit, from what the marks tell.
-use Rattle.std.proofs.Common.{◌≡◌, ℕ, ◌<◌, Bool, true, false, Some, length, sym, refl, ◌∙◌, arith, true≢false}
+use Rattle.std.proofs.Common.{◌≡◌, ℕ, ◌<◌, Bool, true, false, Some, length, sym, ◌∙◌, true≢false}
 use Rattle.std.specs.Prelude.{Contains, position}
 use Rattle.std.proofs.lemmas.List.Quantifiers.{position-Some}
 use Rattle.dl_lit.specs.declared.literal.Literal.{Literal}
 use Rattle.dl_lit.specs.declared.literal.Family.{Family}
-use Rattle.dl_lit.specs.declared.literal.Family.TheVariants.{Definite, Blocking, Propagating, Support}
 use Rattle.dl_lit.specs.Literal.{tagged, literal_eq}
 use Rattle.dl_lit.specs.Order.{literal_eq-Decides}
 use Rattle.dl_theory.specs.Derivations.{Follows}

@@ -5,7 +5,6 @@ mod Gaps
 mod Absent
 mod Running
 mod Certified
-mod Fired
 mod Answered
 mod Wanting
 pub mod Parts

@@ -1,16 +1,20 @@
 -- Nodes that are wanted stay so.
-use Rattle.std.proofs.Common.{◌≡◌, ℕ, ◌+◌, ◌*◌, ◌<◌, ◌≤◌, Bool, true, false, List, Some, length, get_or, set, inl, inr, sym, subst, ap, refl, ◌∙◌, arith, length-set}
+use Rattle.std.proofs.Common.{◌≡◌, ℕ, ◌+◌, ◌*◌, ◌/◌, ◌%◌, ◌<◌, ◌≤◌, ◌==◌, Bool, true, false, [], ◌∷◌, List, Some, length, get_or, set, inl, inr, sym, subst, ap, refl, ◌∙◌, arith, length-set, true≢false}
 use Rattle.std.specs.Prelude.{Contains, slice_get}
 use Rattle.std.proofs.lemmas.Bool.{cases_eq}
+use Rattle.std.proofs.lemmas.Bool.Decides.{eqb_tells}
 use Rattle.std.proofs.lemmas.List.{get_or-set_same, get_or-set_other, get_or_default}
 use Rattle.std.proofs.lemmas.Option.{get_or_from_slice_get}
 use Rattle.dl_lit.specs.declared.literal.Tag.{Tag}
+use Rattle.dl_marks.specs.Marks.{Marking, marked}
 use Rattle.dl_net.specs.Counting.{times}
+use Rattle.dl_net.specs.Region.{Numbers}
 use Rattle.dl_net.specs.Numbers.{NetLists}
 use Rattle.dl_fill.specs.declared.basis.Basis.{Basis}
 use Rattle.dl_fill.specs.declared.basis.Basis.TheVariants.{Prevailing, Failing, Sure, Unsure, Nothing}
 use Rattle.dl_fill.proofs.Written.{times_contains}
-use Rattle.dl_derive.specs.Wanted.{IsWanted, IsMore, With}
+use Rattle.dl_fill.specs.Reads.{basis_at}
+use Rattle.dl_derive.specs.Wanted.{IsWanted, IsMore, With, IsAtHand, IsSureFor}
 
 pub more_none : (xs : List Bool) → IsMore xs xs
 more_none xs = record { len = refl; kept = λ x w. w }
@@ -67,3 +71,21 @@ module _ (Q : List Bool → ℕ → Type 0) (grows : (a b : List Bool) → IsMor
   each_all nodes at wanted past h y m =
       let c = times_contains y nodes m in
       subst (Q wanted) (get_or_default nodes c.0 0 y c.1 ∙ c.2) (h c.0 (omega (arith, c.1, past)) c.1)
+
+-- gates that read nothing need no node
+pub none_for : (N : NetLists) (m : Marking) (region : Numbers) (width : ℕ) (bases : List Basis) (nodes : List ℕ) → bases ≡ []
+    → IsSureFor N m region width bases nodes []
+none_for N m region width bases nodes none = record {
+  ordered = record { passing = tt; here = λ y h. absurd (omega (arith, h)) };
+  has = λ y h inside. subst (λ (bs : List Basis). With N (marked m) (IsAtHand N region.members []) (basis_at bs (y % width)) (y / width)) (sym none) tt;
+}
+
+pub no_members : {A : Type 0} (xs : List A) (empty : Bool) → empty ≡ (length xs == 0) → empty ≡ true → xs ≡ []
+no_members [] empty e h = refl
+no_members (x ∷ xs) empty e h = elim (eqb_tells (length (x ∷ xs)) 0) [
+  | inl none ↦ absurd (omega (arith, none.1))
+  | inr some ↦ absurd (true≢false (sym h ∙ e ∙ some.0))
+]
+
+pub some_member : {A : Type 0} (xs : List A) (empty : Bool) → empty ≡ (length xs == 0) → empty ≡ false → ¬ (xs ≡ [])
+some_member {A} xs empty e h = λ none. true≢false (sym (e ∙ ap (λ (l : List A). length l == 0) none) ∙ h)

@@ -2,6 +2,6 @@ pub mod Back
 pub mod Gap
 pub mod Unnumbered
 pub mod Ways
-pub mod Kinds
 pub mod Wanted
 pub mod Part
+pub mod Asked

@@ -2,13 +2,16 @@
 use Rattle.std.specs.Prelude.{◌≡◌, ◌<◌, ◌+◌, ◌*◌, ◌/◌, ◌%◌, ℕ, Bool, true, false, List, length, Contains, slice_index_or}
 use Rattle.dl_lit.specs.declared.literal.Tag.{Tag}
 use Rattle.dl_lit.specs.declared.literal.Family.TheVariants.{Definite}
+use Rattle.dl_lit.specs.Literal.{tagged}
+use Rattle.dl_theory.specs.Derivations.{Follows}
+use Rattle.dl_marks.specs.Marks.{Marking, marked}
 use Rattle.dl_net.specs.Counting.{times}
+use Rattle.dl_net.specs.Region.{Numbers}
 use Rattle.dl_net.specs.Numbers.{NetLists, attackers_row, literal_at}
 use Rattle.dl_fill.specs.declared.basis.Basis.{Basis}
 use Rattle.dl_fill.specs.declared.basis.Basis.TheVariants.{Prevailing, Failing, Sure, Unsure, Nothing}
-use Rattle.dl_fill.specs.Before.{Before, tag_of, attack_holds}
-use Rattle.dl_fill.specs.Counters.{CounterLists}
-use Rattle.dl_fill.specs.Filled.{IsSolved, HasFired, either_kind}
+use Rattle.dl_fill.specs.Before.{before_of, is_inside, tag_of, attack_holds}
+use Rattle.dl_fill.specs.Filled.{either_kind}
 use Rattle.dl_fill.specs.Passing.{IsOrdered}
 use Rattle.dl_fill.specs.Reads.{basis_at}
 use Rattle.dl_definite.specs.Definite.{definite_wires, definite_gate}
@@ -43,10 +46,12 @@ module _ (N : NetLists) (marked : Tag → ℕ → Bool) (W : ℕ → Type 0) whe
   With Unsure q = W (q * 4 + 1)
   With Nothing q = Unit {0}
 
--- nodes of the definite family in order, those that others read among them
-pub record IsSureFor (N : NetLists) (b : Before) (members : List ℕ) (width : ℕ) (bases : List Basis) (nodes sure : List ℕ) : Type 0 where
-  pub run : CounterLists
-  pub solved : IsSolved N members (HasFired 4 (either_kind 0 1) run) Definite
-  pub ordered : IsOrdered N b 4 2 definite_wires (definite_gate N b) sure
-  pub has : (y : ℕ) → 0 < times y nodes → b.inside (y / width) ≡ true
-      → With N b.marked (λ x. 0 < times x run.queue → 0 < times x sure) (basis_at bases (y % width)) (y / width)
+-- x is among the nodes, where the tagged literal that it stands for follows
+abbrev pub IsAtHand : NetLists → List ℕ → List ℕ → ℕ → Type 0
+IsAtHand N members nodes x =
+    (plus : Bool) (n : ℕ) → x ≡ n * 4 + either_kind 0 1 plus → Contains members n → Follows N.theory (tagged plus Definite (literal_at N n)) → 0 < times x nodes
+
+-- nodes of the definite family in order; of those that others read, the ones that follow are among them
+pub record IsSureFor (N : NetLists) (m : Marking) (region : Numbers) (width : ℕ) (bases : List Basis) (nodes sure : List ℕ) : Type 0 where
+  pub ordered : IsOrdered N (before_of m region) 4 2 definite_wires (definite_gate N (before_of m region)) sure
+  pub has : (y : ℕ) → 0 < times y nodes → is_inside region.members (y / width) ≡ true → With N (marked m) (IsAtHand N region.members sure) (basis_at bases (y % width)) (y / width)

@@ -2,12 +2,10 @@
 
 ghost use Rattle.std.specs.Prelude.{◌≡◌, ◌≤◌, length, IfOk};
 ghost use Rattle.dl_marks.specs.Marks.{places};
-ghost use Rattle.dl_fill.specs.Before.{before_of};
-ghost use Rattle.dl_fill.specs.Tables.{IsTable};
 ghost use Rattle.dl_derive.specs.Ways.{IsRun};
 
 use dl_base::Memory;
-use dl_fill::{Gates, Parts, Wire, make_parts, solve};
+use dl_fill::{FamilyGates, Parts, make_parts, solve};
 use dl_marks::Marks;
 use dl_net::{Graph, Region};
 use std::alloc::Global;
@@ -23,28 +21,25 @@ fn places_of(net: &Graph<'_>) -> usize
 }
 
 /// Counters that have run over a region. `Memory` where there is none for them.
-pub(crate) fn run<G: Gates>(
+pub(crate) fn run<G: FamilyGates>(
     alloc: Global,
     gates: &G,
     net: &Graph<'_>,
     marks: &Marks,
     region: &Region,
-    width: usize,
-    literals: usize,
-    wires: &[Wire],
 ) -> Result<Parts, Memory>
-    requires table { IsTable width literals wires.now }
     requires bound { region.now.bound ≡ length net.now.names }
     requires room { length net.now.names ≤ places marks.now }
-    ensures { IfOk result (λ parts. IsRun net.now (before_of marks.now region.now) region.now.members width literals wires.now (G.tells gates.now net.now (before_of marks.now region.now)) parts.rules parts.counters) }
+    ensures { IfOk result (λ parts. IsRun G.table (G.tells gates.now) net.now marks.now region.now parts.rules parts.counters) }
 {
+    let width = gates.width();
     let mut parts = make_parts(alloc, width, places_of(net))?;
     solve(
         gates,
         net,
         width,
-        literals,
-        wires,
+        gates.literals(),
+        gates.wires(),
         marks,
         region,
         &mut parts.rules,

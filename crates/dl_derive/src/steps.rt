@@ -7,7 +7,8 @@ ghost use Rattle.dl_net.specs.Numbers.{literal_at};
 ghost use Rattle.dl_definite.specs.Definite.{definite_tags};
 
 use dl_base::Memory;
-use dl_fill::is_inside;
+use dl_definite::{DefiniteGates, WIDTH};
+use dl_fill::{FamilyGates, is_inside};
 use dl_lit::{Tag, Tagged};
 use dl_net::{Graph, Region};
 use dl_theory::TaggedList;
@@ -80,7 +81,7 @@ fn push_step(
 }
 
 /// Adds what nodes are read as.
-pub(crate) fn push_steps(
+fn push_steps(
     list: &mut TaggedList,
     net: &Graph<'_>,
     region: &Region,
@@ -98,7 +99,8 @@ pub(crate) fn push_steps(
     Ok(())
 }
 
-/// What nodes of the definite family are read as, and behind it what others are read as. `Memory` where there is none for the list.
+/// What nodes of the definite family are read as, and behind it what those of a family are read as. `Memory` where there is none for the
+/// list.
 pub(crate) fn behind_sure(
     alloc: Global,
     net: &Graph<'_>,
@@ -113,8 +115,8 @@ pub(crate) fn behind_sure(
     ensures { IfOk result (λ list. list ≡ steps_of net.now 4 definite_tags (before.is_inside region.now.members) sure.now ++ steps_of net.now width tags.now (before.is_inside region.now.members) nodes.now) }
 {
     let mut list = TaggedList::make(alloc);
-    let definite = dl_definite::tags();
-    push_steps(&mut list, net, region, dl_definite::WIDTH, &definite, sure)?;
+    let definite = DefiniteGates.tags();
+    push_steps(&mut list, net, region, WIDTH, definite, sure)?;
     push_steps(&mut list, net, region, width, tags, nodes)?;
     Ok(list)
 }

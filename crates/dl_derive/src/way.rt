@@ -5,12 +5,11 @@ ghost use Rattle.dl_marks.specs.Marks.{places};
 ghost use Rattle.dl_net.specs.Counting.{times};
 ghost use Rattle.dl_fill.specs.Before.{before_of};
 ghost use Rattle.dl_fill.specs.Passing.{IsOrdered};
-ghost use Rattle.dl_fill.specs.Tables.{IsTable};
 ghost use Rattle.dl_derive.specs.Wanted.{IsWanted};
 ghost use Rattle.dl_derive.specs.Ways.{IsRun, IsWay, IsFrontTo};
 
 use dl_base::Memory;
-use dl_fill::{Counters, Gates, Parts, Wire, prune};
+use dl_fill::{Counters, FamilyGates, Parts, prune};
 use dl_marks::Marks;
 use dl_net::{Graph, Region};
 use std::alloc::Global;
@@ -51,26 +50,24 @@ fn front(alloc: Global, counters: &Counters, node: usize) -> Result<Vec<usize>, 
 }
 
 /// The nodes on which a node that has fired rests, in order, and that node last. `Memory` where there is none for them.
-pub(crate) fn lead<G: Gates>(
+pub(crate) fn lead<G: FamilyGates>(
     alloc: Global,
     gates: &G,
     net: &Graph<'_>,
     marks: &Marks,
     region: &Region,
-    width: usize,
-    literals: usize,
-    wires: &[Wire],
     parts: &Parts,
     node: usize,
 ) -> Result<Vec<usize>, Memory>
-    requires table { IsTable width literals wires.now }
     requires bound { region.now.bound ≡ length net.now.names }
     requires room { length net.now.names ≤ places marks.now }
-    requires run { IsRun net.now (before_of marks.now region.now) region.now.members width literals wires.now (G.tells gates.now net.now (before_of marks.now region.now)) parts.now.rules parts.now.counters }
+    requires run { IsRun G.table (G.tells gates.now) net.now marks.now region.now parts.now.rules parts.now.counters }
     requires fired { 0 < times node parts.now.counters.queue }
-    ensures { IfOk result (λ nodes. IsWay net.now (before_of marks.now region.now) width literals wires.now (G.tells gates.now net.now (before_of marks.now region.now)) node nodes.items) }
+    ensures { IfOk result (λ nodes. IsWay G.table (G.tells gates.now) net.now marks.now region.now node nodes.items) }
 {
     let _names = net.names();
+    let width = gates.width();
+    let wires = gates.wires();
     let size = parts.counters.size();
     let nodes = front(alloc, &parts.counters, node)?;
     let wanted = only(alloc, size, node)?;
@@ -81,28 +78,26 @@ pub(crate) fn lead<G: Gates>(
 }
 
 /// The nodes on which the wanted ones that have fired rest, in order, these among them. `Memory` where there is none for them.
-pub(crate) fn rest<G: Gates>(
+pub(crate) fn rest<G: FamilyGates>(
     alloc: Global,
     gates: &G,
     net: &Graph<'_>,
     marks: &Marks,
     region: &Region,
-    width: usize,
-    literals: usize,
-    wires: &[Wire],
     parts: &Parts,
     wanted: &[bool],
 ) -> Result<Vec<usize>, Memory>
-    requires table { IsTable width literals wires.now }
     requires bound { region.now.bound ≡ length net.now.names }
     requires room { length net.now.names ≤ places marks.now }
-    requires run { IsRun net.now (before_of marks.now region.now) region.now.members width literals wires.now (G.tells gates.now net.now (before_of marks.now region.now)) parts.now.rules parts.now.counters }
+    requires run { IsRun G.table (G.tells gates.now) net.now marks.now region.now parts.now.rules parts.now.counters }
     requires wanted { length wanted.now ≡ length parts.now.counters.need }
-    ensures ordered { IfOk result (λ kept. IsOrdered net.now (before_of marks.now region.now) width literals wires.now (G.tells gates.now net.now (before_of marks.now region.now)) kept.items) }
+    ensures ordered { IfOk result (λ kept. IsOrdered net.now (before_of marks.now region.now) G.table.width G.table.literals G.table.wires (G.tells gates.now net.now (before_of marks.now region.now)) kept.items) }
     ensures has { IfOk result (λ kept. (x : ℕ) → 0 < times x parts.now.counters.queue → IsWanted wanted.now x → 0 < times x kept.items) }
 {
     let _names = net.names();
     let all = parts.counters.nodes(alloc)?;
+    let width = gates.width();
+    let wires = gates.wires();
     let kept = prune(alloc, gates, net, width, wires, marks, region, &all, wanted)?;
     Ok(kept)
 }

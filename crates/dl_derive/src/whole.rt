@@ -9,18 +9,19 @@ ghost use Rattle.dl_marks.specs.Marks.{places};
 ghost use Rattle.dl_net.specs.Numbers.{literal_at};
 ghost use Rattle.dl_theory.specs.Marks.{AreRight};
 ghost use Rattle.dl_fill.specs.Filled.{IsRight, stands};
-ghost use Rattle.dl_derive.specs.Back.{IsBack};
+ghost use Rattle.dl_derive.specs.Asked.{IsAsked};
 
 use crate::back::region_behind;
-use crate::block::block_steps;
-use crate::definite::definite_steps;
 use crate::gap::gap;
-use crate::pair::pair_steps;
+use crate::leading::led;
 use crate::unnumbered::unnumbered_answer;
 use dl_base::Memory;
+use dl_block::BlockGates;
+use dl_definite::DefiniteGates;
 use dl_lit::{Family, Literal, Tag};
 use dl_marks::Marks;
 use dl_net::{Graph, Net, Region};
+use dl_prop::PropGates;
 use dl_theory::{Answer, Certificate, TaggedList, Verdict};
 use std::alloc::Global;
 
@@ -34,18 +35,24 @@ fn graph_steps(
     family: Family,
     number: usize,
 ) -> Result<TaggedList, Memory>
-    requires number { number < length net.now.names }
-    requires back { IsBack net.now number region.now }
-    requires room { length net.now.names ≤ places marks.now }
-    requires right { (f : Family) → Contains (needs family) f → IsRight net.now marks.now f }
+    requires asked { IsAsked net.now marks.now region.now family number }
     requires follows { Follows net.now.theory (tagged plus family (literal_at net.now number)) }
     ensures { IfOk result (DerivesAt net.now.theory family (literal_at net.now number) (tagged plus family (literal_at net.now number))) }
 {
     match family {
-        Family::Definite => definite_steps(alloc, net, marks, region, plus, number),
-        Family::Blocking => block_steps(alloc, net, marks, region, plus, number),
-        Family::Propagating => pair_steps(alloc, net, marks, region, plus, family, number),
-        Family::Support => pair_steps(alloc, net, marks, region, plus, family, number),
+        Family::Definite => led(
+            alloc,
+            &DefiniteGates,
+            net,
+            marks,
+            region,
+            plus,
+            family,
+            number,
+        ),
+        Family::Blocking => led(alloc, &BlockGates, net, marks, region, plus, family, number),
+        Family::Propagating => led(alloc, &PropGates, net, marks, region, plus, family, number),
+        Family::Support => led(alloc, &PropGates, net, marks, region, plus, family, number),
     }
 }
 
@@ -59,10 +66,7 @@ fn steps_to(
     family: Family,
     number: usize,
 ) -> Result<TaggedList, Memory>
-    requires number { number < length net.now.names }
-    requires back { IsBack net.now number region.now }
-    requires room { length net.now.names ≤ places marks.now }
-    requires right { (f : Family) → Contains (needs family) f → IsRight net.now marks.now f }
+    requires asked { IsAsked net.now marks.now region.now family number }
     requires follows { Follows net.now.theory (tagged plus family (literal_at net.now number)) }
     ensures { IfOk result (DerivesAt net.now.theory family (literal_at net.now number) (tagged plus family (literal_at net.now number))) }
 {

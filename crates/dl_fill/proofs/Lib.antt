@@ -32,3 +32,5 @@ pub mod InOrder
 pub mod Derived
 pub mod Serving
 pub mod Pruning
+pub mod Families
+pub mod Sound

@@ -1,15 +1,18 @@
 -- In the families that are filled exactly what follows fires in the region, where what has fired has its tag and what meets its
 -- condition fires.
-use Rattle.std.proofs.Common.{◌≡◌, ℕ, ◌+◌, ◌*◌, ◌<◌, Bool, true, false, List, length, sym, subst, refl}
-use Rattle.std.specs.Prelude.{Contains}
-use Rattle.std.proofs.lemmas.List.Elements.{Contains-get_or}
+use Rattle.std.proofs.Common.{◌≡◌, ℕ, ◌+◌, ◌*◌, ◌<◌, Bool, true, false, List, [], ◌∷◌, length, sym, subst, refl, arith}
+use Rattle.std.specs.Prelude.{All, Contains}
+use Rattle.std.proofs.lemmas.List.Elements.{Contains-get_or, All-nil, All-cons, All-contains}
+use Rattle.dl_base.proofs.Members.{only}
 use Rattle.dl_lit.specs.declared.literal.Literal.{Literal}
 use Rattle.dl_lit.specs.declared.literal.Tagged.{Tagged}
 use Rattle.dl_lit.specs.declared.literal.Family.{Family}
+use Rattle.dl_lit.specs.declared.literal.Family.TheVariants.{Definite, Blocking, Propagating, Support}
 use Rattle.dl_lit.specs.Literal.{tagged}
 use Rattle.dl_theory.specs.Conditions.{Condition}
 use Rattle.dl_theory.specs.Derivations.{Follows}
 use Rattle.dl_theory.specs.Verdicts.{needs}
+use Rattle.dl_theory.proofs.Needs.{needs_itself}
 use Rattle.dl_theory.proofs.Closure.{follows_step, saturated_has}
 use Rattle.dl_net.specs.Counting.{times}
 use Rattle.dl_net.specs.Numbers.{NetLists, IsNumbered, no_literal, literal_at, number}
@@ -21,9 +24,35 @@ use Rattle.dl_fill.proofs.Links.{number_finds, number_inside}
 use Rattle.dl_fill.proofs.Exact.{names_closed}
 use Rattle.dl_fill.proofs.Written.{inside_decides, contains_times}
 
--- Ours are the families that the filled ones need; the nodes of a filled family's literals are of its kinds
-module _ (N : NetLists) (numbered : IsNumbered N) (members : List ℕ) (Ours : Family → Type 0) (closed : (f g : Family) → Contains (needs f) g → Ours f → Ours g)
-    (s : ℕ) (filled : Family → Bool) (kind : Family → Bool → ℕ) (w : CounterLists) where
+pub needs_definite : (f : Family) → Contains (needs f) Definite
+needs_definite Definite = (0, omega arith, refl)
+needs_definite Blocking = (0, omega arith, refl)
+needs_definite Propagating = (0, omega arith, refl)
+needs_definite Support = (0, omega arith, refl)
+
+sure_needs : (f h : Family) → Contains (needs Definite) h → Contains (needs f) h
+sure_needs f h n = subst (Contains (needs f)) (sym (only Definite h n)) (needs_definite f)
+
+-- what matters for a family matters for those for which that matters
+abbrev Into : Family → Family → Type 0
+Into f g = (h : Family) → Contains (needs g) h → Contains (needs f) h
+
+into_needs : (f : Family) → All (Into f) (needs f)
+into_needs Definite = All-cons (Into Definite) Definite [] (λ h n. n) (All-nil (Into Definite))
+into_needs Blocking =
+    All-cons (Into Blocking) Definite (Blocking ∷ []) (sure_needs Blocking) (All-cons (Into Blocking) Blocking [] (λ h n. n) (All-nil (Into Blocking)))
+into_needs Propagating =
+    All-cons (Into Propagating) Definite (Propagating ∷ Support ∷ []) (sure_needs Propagating)
+    (All-cons (Into Propagating) Propagating (Support ∷ []) (λ h n. n) (All-cons (Into Propagating) Support [] (λ h n. n) (All-nil (Into Propagating))))
+into_needs Support =
+    All-cons (Into Support) Definite (Propagating ∷ Support ∷ []) (sure_needs Support)
+    (All-cons (Into Support) Propagating (Support ∷ []) (λ h n. n) (All-cons (Into Support) Support [] (λ h n. n) (All-nil (Into Support))))
+
+pub needs_all : (f g h : Family) → Contains (needs g) h → Contains (needs f) g → Contains (needs f) h
+needs_all f g h m d = All-contains (Into f) (needs f) g (into_needs f) d h m
+
+-- the nodes of a filled family's literals are of its kinds
+module _ (N : NetLists) (numbered : IsNumbered N) (members : List ℕ) (s : ℕ) (filled : Family → Bool) (kind : Family → Bool → ℕ) (w : CounterLists) where
   -- what follows counts as derived, and of a family that is filled its node has fired at the members of the region
   abbrev pub GotWhen : Bool → Family → Bool → Literal → Type 0
   GotWhen true f p q = Follows N.theory (tagged p f q) × (is_inside members (number N q) ≡ true → 0 < times (number N q * s + kind f p) w.queue)
@@ -58,15 +87,15 @@ module _ (N : NetLists) (numbered : IsNumbered N) (members : List ℕ) (Ours : F
     )
     saturated f false e p q m h = follows_step N.theory Got follows (tagged p f q) h
 
-    pub solved : (f : Family) → Ours f → filled f ≡ true → IsSolved N members (HasFired s (kind f) w) f
-    solved f ours e p q m =
+    pub solved : (f : Family) → filled f ≡ true → IsSolved N members (HasFired s (kind f) w) f
+    solved f e p q m =
         let lt = within q (contains_times q members m) in (
           λ h. (means f e p q h).1,
           λ h.
               fired f e p q ((inside_decides members q).1 m) (
                 lt,
-                saturated_has N.theory Ours (Contains N.names) (names_closed N numbered Ours closed) Got
+                saturated_has N.theory (Contains (needs f)) (Contains N.names) (names_closed N numbered (Contains (needs f)) (λ g h n d. needs_all f g h n d)) Got
                     (λ x fam inside meets. saturated x.family (filled x.family) refl x.plus x.literal inside meets)
-                    (tagged p f (literal_at N q)) h ours (Contains-get_or N.names q no_literal lt),
+                    (tagged p f (literal_at N q)) h (needs_itself f) (Contains-get_or N.names q no_literal lt),
               ),
         )

@@ -1,5 +1,5 @@
 -- Marks after a fill.
-use Rattle.std.proofs.Common.{◌≡◌, ℕ, suc, zero, ◌+◌, ◌*◌, ◌<◌, ◌≤◌, Bool, true, false, Some, List, [], ◌∷◌, ◌++◌, length, take, get_or, inl, inr, ◌⊎◌, sym, subst, ap, refl, ◌∙◌, arith, true≢false}
+use Rattle.std.proofs.Common.{◌≡◌, ℕ, suc, zero, ◌+◌, ◌*◌, ◌<◌, ◌≤◌, Bool, true, false, Some, List, [], ◌∷◌, ◌++◌, length, take, get_or, inl, inr, ◌⊎◌, sym, subst, ap, ◌∙◌, arith, true≢false}
 use Rattle.std.specs.Prelude.{◌↔◌, All, Contains, IsTrue, slice_get, MatchOption, Option}
 use Rattle.std.specs.Bool.{Decides}
 use Rattle.std.proofs.lemmas.Bool.{cases_eq, cases_lt, ltb-true, lt-ltb}
@@ -18,7 +18,7 @@ use Rattle.dl_net.specs.Counting.{times}
 use Rattle.dl_net.specs.Numbers.{NetLists, literal_at, no_literal}
 use Rattle.dl_fill.specs.Counters.{CounterLists}
 use Rattle.dl_fill.specs.Before.{tag_of, is_inside, before_of, IsExact, IsExactOutside}
-use Rattle.dl_fill.specs.Filled.{stands, IsRight, IsReady, IsFilled, IsWritten, IsFamilyWritten, HasFired, IsSolved, either_kind}
+use Rattle.dl_fill.specs.Filled.{stands, IsRight, IsReady, IsWritten, IsFamilyWritten, HasFired, IsSolved}
 use Rattle.dl_fill.proofs.Times.{times_cons_same, times_cons_other}
 use Rattle.dl_fill.proofs.Nodes.{node_inside}
 
@@ -116,16 +116,16 @@ module _ (width kind : ℕ) (w : CounterLists) (tag : Tag) (members : List ℕ) 
   untouched new h t n never = elim (h.kept t n) [ inl same ↦ same | inr f ↦ absurd (never f.0 f.1) ]
 
 -- both tags of a family
-module _ (width for_plus for_minus : ℕ) (w : CounterLists) (f : Family) (members : List ℕ) (old mid new : Marking) where
+module _ (width : ℕ) (kind : Bool → ℕ) (w : CounterLists) (f : Family) (members : List ℕ) (old mid new : Marking) where
   pub family_written : ((plus : Bool) → All (λ q. marked old (tag_of plus f) q ≡ false) members)
-      → IsWritten width for_plus w (tag_of true f) members old mid → IsWritten width for_minus w (tag_of false f) members mid new
-      → IsFamilyWritten (HasFired width (either_kind for_plus for_minus) w) f members old new
+      → IsWritten width (kind true) w (tag_of true f) members old mid → IsWritten width (kind false) w (tag_of false f) members mid new
+      → IsFamilyWritten (HasFired width kind w) f members old new
   family_written absent first second = record {
     within = within;
-    out = λ plus n never. untouched width for_minus w (tag_of false f) members mid new second (tag_of plus f) n (λ e m. never m)
-        ∙ untouched width for_plus w (tag_of true f) members old mid first (tag_of plus f) n (λ e m. never m);
-    others = λ g never plus n. untouched width for_minus w (tag_of false f) members mid new second (tag_of plus g) n (λ e m. never (ap (λ t. t.family) e))
-        ∙ untouched width for_plus w (tag_of true f) members old mid first (tag_of plus g) n (λ e m. never (ap (λ t. t.family) e));
+    out = λ plus n never. untouched width (kind false) w (tag_of false f) members mid new second (tag_of plus f) n (λ e m. never m)
+        ∙ untouched width (kind true) w (tag_of true f) members old mid first (tag_of plus f) n (λ e m. never m);
+    others = λ g never plus n. untouched width (kind false) w (tag_of false f) members mid new second (tag_of plus g) n (λ e m. never (ap (λ t. t.family) e))
+        ∙ untouched width (kind true) w (tag_of true f) members old mid first (tag_of plus g) n (λ e m. never (ap (λ t. t.family) e));
     places = second.places ∙ first.places;
     owned = λ n. second.owned n ∙ first.owned n;
   }
@@ -133,28 +133,28 @@ module _ (width for_plus for_minus : ℕ) (w : CounterLists) (f : Family) (membe
       not_before : (plus : Bool) (n : ℕ) → Contains members n → marked old (tag_of plus f) n ≡ true → ⊥
       not_before plus n m e = true≢false (sym e ∙ All-contains (λ q. marked old (tag_of plus f) q ≡ false) members n (absent plus) m)
 
-      within : (plus : Bool) (n : ℕ) → Contains members n → (marked new (tag_of plus f) n ≡ true) ↔ HasFired width (either_kind for_plus for_minus) w plus n
+      within : (plus : Bool) (n : ℕ) → Contains members n → (marked new (tag_of plus f) n ≡ true) ↔ HasFired width kind w plus n
       within true n m = (
-        λ e. elim (was_or_fired width for_minus w (tag_of false f) members mid new second (tag_of true f) n e) [
-          | inl before ↦ elim (was_or_fired width for_plus w (tag_of true f) members old mid first (tag_of true f) n before) [
+        λ e. elim (was_or_fired width (kind false) w (tag_of false f) members mid new second (tag_of true f) n e) [
+          | inl before ↦ elim (was_or_fired width (kind true) w (tag_of true f) members old mid first (tag_of true f) n before) [
             | inl earlier ↦ absurd (not_before true n m earlier)
             | inr fired ↦ fired.1
           ]
           | inr wrong ↦ absurd (true≢false (ap (λ t. t.plus) wrong.0))
         ],
         λ fired.
-            stays width for_minus w (tag_of false f) members mid new second (tag_of true f) n
-            (All-contains (λ q. 0 < times (q * width + for_plus) w.queue → marked mid (tag_of true f) q ≡ true) members n first.set m fired),
+            stays width (kind false) w (tag_of false f) members mid new second (tag_of true f) n
+            (All-contains (λ q. 0 < times (q * width + kind true) w.queue → marked mid (tag_of true f) q ≡ true) members n first.set m fired),
       )
       within false n m = (
-        λ e. elim (was_or_fired width for_minus w (tag_of false f) members mid new second (tag_of false f) n e) [
-          | inl before ↦ elim (was_or_fired width for_plus w (tag_of true f) members old mid first (tag_of false f) n before) [
+        λ e. elim (was_or_fired width (kind false) w (tag_of false f) members mid new second (tag_of false f) n e) [
+          | inl before ↦ elim (was_or_fired width (kind true) w (tag_of true f) members old mid first (tag_of false f) n before) [
             | inl earlier ↦ absurd (not_before false n m earlier)
             | inr wrong ↦ absurd (true≢false (sym (ap (λ t. t.plus) wrong.0)))
           ]
           | inr fired ↦ fired.1
         ],
-        λ fired. All-contains (λ q. 0 < times (q * width + for_minus) w.queue → marked new (tag_of false f) q ≡ true) members n second.set m fired,
+        λ fired. All-contains (λ q. 0 < times (q * width + kind false) w.queue → marked new (tag_of false f) q ≡ true) members n second.set m fired,
       )
 
 -- at a name, and past the names
@@ -192,28 +192,20 @@ exact_of_ready N Ours m region f ours ready plus q lt out =
     right_decides N m plus f q lt
     (ready.outside f ours plus q (omega (arith, ready.room, lt)) (λ h. true≢false (sym ((inside_decides region.members q).1 h) ∙ out)))
 
--- a solved family that is written is right
+-- a solved family is right whose marks in the region are those of the nodes that have fired
 pub written_right : (N : NetLists) (Ours : Family → Type 0) (f : Family) (ours : Ours f) (region : Numbers) (Fired : Bool → ℕ → Type 0) (old new : Marking)
-    → IsReady N Ours old region → All (λ q. q < region.bound) region.members → IsSolved N region.members Fired f → IsFamilyWritten Fired f region.members old new → IsRight N new f
-written_right N Ours f ours region Fired old new ready below solved written plus n lt = elim (member_or_not region.members n) [
+    → IsReady N Ours old region → All (λ q. q < region.bound) region.members → IsSolved N region.members Fired f
+    → ((plus : Bool) (n : ℕ) → Contains region.members n → (marked new (tag_of plus f) n ≡ true) ↔ Fired plus n)
+    → ((plus : Bool) (n : ℕ) → (¬ Contains region.members n) → marked new (tag_of plus f) n ≡ marked old (tag_of plus f) n)
+    → places new ≡ places old → IsRight N new f
+written_right N Ours f ours region Fired old new ready below solved within out same plus n lt = elim (member_or_not region.members n) [
   | inl here ↦
       let named : n < length N.names = omega (arith, All-contains (λ q. q < region.bound) region.members n below here, ready.bound) in
-      let w = written.within plus n here in
+      let w = within plus n here in
       let s = solved plus n here in
       decides_right N new plus f n named (λ e. s.0 (w.0 e), λ h. w.1 (s.1 h))
-  | inr out ↦ right_alike N old new plus f n (written.out plus n out) (ready.outside f ours plus n (omega (arith, lt, written.places)) out)
+  | inr never ↦ right_alike N old new plus f n (out plus n never) (ready.outside f ours plus n (omega (arith, lt, same)) never)
 ]
-
--- a fill of one family
-pub one_filled : (N : NetLists) (f : Family) (region : Numbers) (Fired : Bool → ℕ → Type 0) (old new : Marking)
-    → IsReady N (λ g. g ≡ f) old region → All (λ q. q < region.bound) region.members → IsSolved N region.members Fired f → IsFamilyWritten Fired f region.members old new
-    → IsFilled N (λ g. g ≡ f) old new
-one_filled N f region Fired old new ready below solved written = record {
-  right = λ g e. subst (IsRight N new) (sym e) (written_right N (λ g. g ≡ f) f refl region Fired old new ready below solved written);
-  others = written.others;
-  places = written.places;
-  owned = written.owned;
-}
 
 -- the nodes of the members of a region have a place
 pub nodes_fit : (s kind places need bound : ℕ) (members : List ℕ) → kind < s → All (λ q. q < bound) members → bound ≤ places → need ≡ places * s

@@ -55,6 +55,14 @@ pub record IsFamilyWritten (Fired : Bool → ℕ → Type 0) (f : Family) (membe
   pub places : places new ≡ places old
   pub owned : (n : ℕ) → is_owned new n ≡ is_owned old n
 
+-- the marks of some families in the region are those whose nodes have fired, and all others are as before
+pub record AreWritten (Fired : Family → Bool → ℕ → Type 0) (Ours : Family → Type 0) (members : List ℕ) (old new : Marking) : Type 0 where
+  pub within : (f : Family) → Ours f → (plus : Bool) (n : ℕ) → Contains members n → (marked new (tag_of plus f) n ≡ true) ↔ Fired f plus n
+  pub out : (f : Family) → Ours f → (plus : Bool) (n : ℕ) → (¬ Contains members n) → marked new (tag_of plus f) n ≡ marked old (tag_of plus f) n
+  pub others : (f : Family) → (¬ Ours f) → (plus : Bool) (n : ℕ) → marked new (tag_of plus f) n ≡ marked old (tag_of plus f) n
+  pub places : places new ≡ places old
+  pub owned : (n : ℕ) → is_owned new n ≡ is_owned old n
+
 -- exactly what follows in a family has fired, at the members of the region
 abbrev pub IsSolved : NetLists → List ℕ → (Bool → ℕ → Type 0) → Family → Type 0
 IsSolved N members Fired f = (plus : Bool) (q : ℕ) → Contains members q → Fired plus q ↔ Follows N.theory (tagged plus f (literal_at N q))

@@ -17,3 +17,4 @@ pub mod Passing
 pub mod Steps
 pub mod Pruned
 pub mod Reads
+pub mod Families

@@ -60,7 +60,7 @@ pub record IsClean (w : CounterLists) : Type 0 where
   pub need : (y : ℕ) → slice_index w.need y ≡ 0
   pub queue : w.queue ≡ []
 
--- for how many rules and names there is room
+-- for how many kinds of nodes there is room, at how many places: a place is that of a rule or of a name
 pub record Room : Type 0 where
-  pub rules : ℕ
-  pub names : ℕ
+  pub width : ℕ
+  pub places : ℕ

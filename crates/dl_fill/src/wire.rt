@@ -1,7 +1,5 @@
 //! The wires between the nodes of a family, and what a node waits for.
 
-ghost use Rattle.std.specs.Prelude.{◌≡◌};
-
 use dl_net::Link;
 
 /// From each node of one kind to nodes of another kind, where the link leads.
@@ -12,13 +10,12 @@ pub struct Wire {
     pub to: usize,
 }
 
-impl Wire {
-    /// A wire.
-    pub fn new(from: usize, link: Link, to: usize) -> Wire
-        ensures { result ≡ record { from = from; link = link; to = to } }
-    {
-        Wire { from, link, to }
-    }
+/// A table of wires, each by the kind from which it leads, the link, and the kind to which it leads.
+#[macro_export]
+macro_rules! wires {
+    ($(($from:expr, $link:expr, $to:expr)),* $(,)?) => {
+        [$($crate::Wire { from: $from, link: $link, to: $to }),*]
+    };
 }
 
 /// When a node fires.

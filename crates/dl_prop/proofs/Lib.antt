@@ -1,3 +1,2 @@
 pub mod Countered
 pub mod Propagation
-pub mod Both

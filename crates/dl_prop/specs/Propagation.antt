@@ -1,7 +1,7 @@
 -- The families propagating and support together: their wires and gates.
-use Rattle.std.specs.Prelude.{◌≡◌, ◌⊎◌, ℕ, zero, suc, Bool, true, false, cond, Option, None, Some, List, [], ◌∷◌, length, nat_lt}
+use Rattle.std.specs.Prelude.{ℕ, zero, suc, Bool, true, false, cond, Option, None, Some, List, [], ◌∷◌, length, nat_lt}
 use Rattle.dl_lit.specs.declared.literal.Family.{Family}
-use Rattle.dl_lit.specs.declared.literal.Family.TheVariants.{Definite, Propagating, Support}
+use Rattle.dl_lit.specs.declared.literal.Family.TheVariants.{Definite, Blocking, Propagating, Support}
 use Rattle.dl_lit.specs.declared.literal.Tag.{Tag}
 use Rattle.dl_net.specs.Numbers.{NetLists}
 use Rattle.dl_net.specs.declared.link.Link.TheVariants.{Same, Uses, Backs, Opposes, Defends, Counters}
@@ -10,11 +10,9 @@ use Rattle.dl_fill.specs.declared.basis.Basis.{Basis}
 use Rattle.dl_fill.specs.declared.basis.Basis.TheVariants.{Prevailing, Failing, Sure, Unsure, Nothing}
 use Rattle.dl_fill.specs.declared.wire.Gate.{Gate}
 use Rattle.dl_fill.specs.declared.wire.Gate.TheVariants.{Every, Either, Never}
+use Rattle.dl_fill.specs.Families.{FamilyTable}
+use Rattle.dl_fill.specs.Filled.{either_kind}
 use Rattle.dl_fill.specs.Before.{Before, tag_of, attack_fails, attack_holds, outside_is_on, outside_is_off, on_gate, off_gate, plus_gate, minus_gate, some_gate, each_gate}
-
--- the two families, each of which looks at the other
-abbrev pub IsOfPair : Family → Type 0
-IsOfPair f = (f ≡ Propagating) ⊎ (f ≡ Support)
 
 -- kinds of a literal: 0 concluded, 1 refuted, 2 supported, 3 unsupported in propagating; 4 concluded, 5 refuted in support.
 -- Kinds of a rule: 6 on, 7 off, 8 answered, 9 on and unanswered in propagating, where attackers are judged by support;
@@ -90,3 +88,29 @@ propagation_gate N b (suc (suc (suc zero))) q = cond (nat_lt q (length N.names))
 propagation_gate N b (suc (suc (suc (suc zero)))) q = cond (nat_lt q (length N.names)) (literal_gate N b.marked 4 q) Never
 propagation_gate N b (suc (suc (suc (suc (suc zero))))) q = cond (nat_lt q (length N.names)) (literal_gate N b.marked 5 q) Never
 propagation_gate N b (suc (suc (suc (suc (suc (suc k)))))) r = cond (nat_lt r (length N.theory.rules)) (rule_gate N b k r) Never
+
+-- the two families are filled together
+abbrev pub propagation_fills : Family → Bool
+propagation_fills Definite = false
+propagation_fills Blocking = false
+propagation_fills Propagating = true
+propagation_fills Support = true
+
+-- the kind of a literal's node for one of them and a sign
+abbrev pub propagation_kind : Family → Bool → ℕ
+propagation_kind Definite plus = 0
+propagation_kind Blocking plus = 0
+propagation_kind Propagating plus = either_kind 0 1 plus
+propagation_kind Support plus = either_kind 4 5 plus
+
+abbrev pub propagation_table : FamilyTable
+propagation_table = record {
+  width = 14;
+  literals = 6;
+  wires = propagation_wires;
+  tags = propagation_tags;
+  bases = propagation_bases;
+  fills = propagation_fills;
+  kind = propagation_kind;
+  below = Definite ∷ [];
+}

@@ -1,11 +1,12 @@
 //! Marks of all that follows in a theory by numbers.
 
-ghost use Rattle.std.specs.Prelude.{◌≡◌, ◌+◌, ◌*◌, ◌≤◌, IfOk, OnOk, length};
+ghost use Rattle.std.specs.Prelude.{◌≡◌, ◌+◌, ◌*◌, ◌≤◌, Contains, IfOk, OnOk, length};
+ghost use Rattle.dl_lit.specs.declared.literal.Family.{Family};
 ghost use Rattle.dl_lit.specs.declared.literal.Family.TheVariants as family;
 ghost use Rattle.dl_theory.specs.Marks.{AreRight};
 ghost use Rattle.dl_marks.specs.Marks.{places};
+ghost use Rattle.dl_fill.specs.Families.{IsFilledBy};
 ghost use Rattle.dl_fill.specs.Filled.{IsReady, IsFilled, IsRight, stands};
-ghost use Rattle.dl_prop.specs.Propagation.{IsOfPair};
 ghost use Rattle.dl_update.specs.RightIn.{AreRightIn};
 ghost use Rattle.dl_update.specs.Room.{HasRoom};
 ghost use Rattle.dl_update.specs.Whole.{IsWhole};
@@ -14,14 +15,34 @@ use crate::families::Families;
 use crate::unmarked::{everywhere, no_marks};
 use crate::works::Works;
 use dl_base::Memory;
-use dl_block::{BlockWork, fill_block};
-use dl_definite::{DefiniteWork, fill_definite};
+use dl_block::BlockGates;
+use dl_definite::DefiniteGates;
+use dl_fill::{FamilyGates, FillRoom, fill};
 use dl_lit::Family;
 use dl_marks::{Marks, Steps};
 use dl_net::{Graph, Region};
-use dl_prop::{PropWork, fill_prop};
+use dl_prop::PropGates;
 use std::alloc::Global;
 use std::sync::ledger::Ledger;
+
+/// Sets the marks of the families of a table, with room of its own. `Memory` where there is none for that.
+fn fill_alone<G: FamilyGates, L: Ledger>(
+    alloc: Global,
+    gates: &G,
+    net: &Graph<'_>,
+    region: &Region,
+    marks: &mut Marks,
+    steps: &mut Steps<L>,
+) -> Result<(), Memory>
+    requires below { (f : Family) → Contains G.table.below f → IsRight net.now marks.old f }
+    requires ready { IsReady net.now (IsFilledBy G.table) marks.old region.now }
+    ensures { OnOk result (IsFilled net.now (IsFilledBy G.table) marks.old marks.new) }
+{
+    let mut room = FillRoom::make(alloc, gates);
+    room.reserve(net.rules_len(), net.names())?;
+    fill(gates, net, marks, region, &mut room, steps);
+    Ok(())
+}
 
 /// Marks that are right in the definite family, and of which no other stands.
 fn begun<L: Ledger>(
@@ -36,46 +57,8 @@ fn begun<L: Ledger>(
     ensures ready { IfOk result (λ marks. IsReady net.now (λ f. ¬ (f ≡ family.Definite)) marks region.now) }
 {
     let mut marks = no_marks(alloc, net, region, steps)?;
-    let mut work = DefiniteWork::make(alloc);
-    work.reserve(net.rules_len(), net.names())?;
-    fill_definite(net, &mut marks, region, &mut work, steps);
+    fill_alone(alloc, &DefiniteGates, net, region, &mut marks, steps)?;
     Ok(marks)
-}
-
-/// Sets the marks of the blocking family.
-fn fill_blocking<L: Ledger>(
-    alloc: Global,
-    net: &Graph<'_>,
-    region: &Region,
-    marks: &mut Marks,
-    steps: &mut Steps<L>,
-) -> Result<(), Memory>
-    requires definite { IsRight net.now marks.old family.Definite }
-    requires ready { IsReady net.now (λ f. f ≡ family.Blocking) marks.old region.now }
-    ensures { OnOk result (IsFilled net.now (λ f. f ≡ family.Blocking) marks.old marks.new) }
-{
-    let mut work = BlockWork::make(alloc);
-    work.reserve(net.rules_len(), net.names())?;
-    fill_block(net, marks, region, &mut work, steps);
-    Ok(())
-}
-
-/// Sets the marks of the families propagating and support.
-fn fill_pair<L: Ledger>(
-    alloc: Global,
-    net: &Graph<'_>,
-    region: &Region,
-    marks: &mut Marks,
-    steps: &mut Steps<L>,
-) -> Result<(), Memory>
-    requires definite { IsRight net.now marks.old family.Definite }
-    requires ready { IsReady net.now IsOfPair marks.old region.now }
-    ensures { OnOk result (IsFilled net.now IsOfPair marks.old marks.new) }
-{
-    let mut work = PropWork::make(alloc);
-    work.reserve(net.rules_len(), net.names())?;
-    fill_prop(net, marks, region, &mut work, steps);
-    Ok(())
 }
 
 /// Marks that are right in a family, with a place for each name. Only the families that it needs are filled. `Memory`
@@ -93,9 +76,9 @@ fn family_marks<L: Ledger>(
     let mut marks = begun(alloc, net, &region, steps)?;
     match family {
         Family::Definite => {}
-        Family::Blocking => fill_blocking(alloc, net, &region, &mut marks, steps)?,
-        Family::Propagating => fill_pair(alloc, net, &region, &mut marks, steps)?,
-        Family::Support => fill_pair(alloc, net, &region, &mut marks, steps)?,
+        Family::Blocking => fill_alone(alloc, &BlockGates, net, &region, &mut marks, steps)?,
+        Family::Propagating => fill_alone(alloc, &PropGates, net, &region, &mut marks, steps)?,
+        Family::Support => fill_alone(alloc, &PropGates, net, &region, &mut marks, steps)?,
     }
     Ok(marks)
 }
@@ -114,9 +97,16 @@ pub fn fill_all<L: Ledger>(
     ensures right { AreRight net.now.theory net.now.names (places marks.new) (stands marks.new) }
     ensures steps { steps.new ≤ steps.old + 8 * length region.now.members }
 {
-    fill_definite(net, marks, region, &mut works.definite, steps);
-    fill_block(net, marks, region, &mut works.blocking, steps);
-    fill_prop(net, marks, region, &mut works.pair, steps);
+    fill(
+        &DefiniteGates,
+        net,
+        marks,
+        region,
+        &mut works.definite,
+        steps,
+    );
+    fill(&BlockGates, net, marks, region, &mut works.blocking, steps);
+    fill(&PropGates, net, marks, region, &mut works.pair, steps);
 }
 
 /// Marks that are right in all families, with a place for each name. `Memory` where there is none for the marks or for

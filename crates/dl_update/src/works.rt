@@ -1,24 +1,29 @@
 //! Room for the fills of all families.
 
-ghost use Rattle.std.specs.Prelude.{◌≤◌};
+ghost use Rattle.dl_fill.specs.Families.{HasPlaces};
+ghost use Rattle.dl_definite.specs.Definite.{definite_table};
+ghost use Rattle.dl_block.specs.Block.{block_table};
+ghost use Rattle.dl_prop.specs.Propagation.{propagation_table};
 
 use dl_base::Memory;
-use dl_block::BlockWork;
-use dl_definite::DefiniteWork;
-use dl_prop::PropWork;
+use dl_block::BlockGates;
+use dl_definite::DefiniteGates;
+use dl_fill::FillRoom;
+use dl_prop::PropGates;
 use std::alloc::Global;
 
 /// What the fills work with.
 #[derive(Drop)]
 pub(crate) struct Works {
-    pub definite: DefiniteWork,
-    pub blocking: BlockWork,
-    pub pair: PropWork,
+    pub definite: FillRoom,
+    pub blocking: FillRoom,
+    pub pair: FillRoom,
     /// All have room for so many rules and names.
     rules: usize,
     names: usize,
-    ghost enough_rules: { (rules ≤ definite.rules) × (rules ≤ blocking.rules) × (rules ≤ pair.rules) },
-    ghost enough_names: { (names ≤ definite.names) × (names ≤ blocking.names) × (names ≤ pair.names) },
+    ghost definite_places: { HasPlaces definite_table rules names definite },
+    ghost blocking_places: { HasPlaces block_table rules names blocking },
+    ghost pair_places: { HasPlaces propagation_table rules names pair },
 }
 
 impl Works {
@@ -28,9 +33,9 @@ impl Works {
     /// No room.
     pub fn make(alloc: Global) -> Works {
         Works {
-            definite: DefiniteWork::make(alloc),
-            blocking: BlockWork::make(alloc),
-            pair: PropWork::make(alloc),
+            definite: FillRoom::make(alloc, &DefiniteGates),
+            blocking: FillRoom::make(alloc, &BlockGates),
+            pair: FillRoom::make(alloc, &PropGates),
             rules: 0,
             names: 0,
         }

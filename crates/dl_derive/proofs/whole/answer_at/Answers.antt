@@ -32,3 +32,11 @@ returns c = record {
       (λ g needed. exact_of_right c.args.net.now c.args.marks.now c.in_ok-region.region g c.requires.room (c.requires.right g needed))
       c.args.number c.requires.number c.in_ok-region.region c.in_ok-region.ensures c.in_ok-members.members c.in_ok-members.ensures;
 }
+
+pub steps_to-requires-clause-asked : goal.steps_to-requires-clause-asked
+steps_to-requires-clause-asked c =
+    record { number = c.requires.number; back = c.in_ok-region.ensures; room = c.requires.room; right = c.requires.right }
+
+pub steps_to-requires-then-get-2-clause-asked : goal.steps_to-requires-then-get-2-clause-asked
+steps_to-requires-then-get-2-clause-asked c =
+    record { number = c.requires.number; back = c.in_ok-region.ensures; room = c.requires.room; right = c.requires.right }

@@ -1,18 +1,17 @@
-use Rattle.std.proofs.Common.{arith, refl, sym, subst}
-use Rattle.std.specs.Prelude.{Contains}
-use Rattle.dl_lit.specs.declared.literal.Family.{Family}
-use Rattle.dl_lit.specs.declared.literal.Family.TheVariants.{Definite, Blocking}
-use Rattle.dl_theory.specs.Verdicts.{needs}
+use Rattle.std.proofs.Common.{ap}
+use Rattle.dl_definite.specs.Definite.{definite_fills}
+use Rattle.dl_block.specs.Block.{block_fills}
+use Rattle.dl_prop.specs.Propagation.{propagation_fills}
 use Rattle.dl_derive.proofs.whole.graph_steps.Goals as goal
 
-pub definite_steps-requires-clause-right : goal.definite_steps-requires-clause-right
-definite_steps-requires-clause-right c =
-    c.requires.right Definite (subst (λ (f : Family). Contains (needs f) Definite) (sym c.in-Definite.is) (0, omega arith, refl))
+pub led-requires-clause-filled : goal.led-requires-clause-filled
+led-requires-clause-filled c = ap definite_fills c.in-Definite.is
 
-pub block_steps-requires-clause-definite : goal.block_steps-requires-clause-definite
-block_steps-requires-clause-definite c =
-    c.requires.right Definite (subst (λ (f : Family). Contains (needs f) Definite) (sym c.in-Blocking.is) (0, omega arith, refl))
+pub led-requires-in-Blocking-clause-filled : goal.led-requires-in-Blocking-clause-filled
+led-requires-in-Blocking-clause-filled c = ap block_fills c.in-Blocking.is
 
-pub block_steps-requires-clause-right : goal.block_steps-requires-clause-right
-block_steps-requires-clause-right c =
-    c.requires.right Blocking (subst (λ (f : Family). Contains (needs f) Blocking) (sym c.in-Blocking.is) (1, omega arith, refl))
+pub led-requires-in-Propagating-clause-filled : goal.led-requires-in-Propagating-clause-filled
+led-requires-in-Propagating-clause-filled c = ap propagation_fills c.in-Propagating.is
+
+pub led-requires-in-Support-clause-filled : goal.led-requires-in-Support-clause-filled
+led-requires-in-Support-clause-filled c = ap propagation_fills c.in-Support.is

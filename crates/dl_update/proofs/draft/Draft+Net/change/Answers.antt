@@ -116,7 +116,7 @@ fill_all-requires-clause-room g c =
     let short : length c.commit.new.self.names ≤ c.in_ok-count.count =
     omega (arith, ap (λ (ls : List Literal). length ls) c.commit.ensures.names, c.in_ok-count.ensures.enough N.names by) in
     subst (λ (M : NetLists). HasRoom (length M.theory.rules) (length M.names) c.reserve.new.self) (sym c.graph.ensures)
-    (less_room (c.rules_len.result + 1) c.in_ok-count.count (length T.rules) (length c.commit.new.self.names) c.reserve.new.self few short c.in_ok-reserve.ensures)
+    (less_room (c.rules_len.result + 1) c.in_ok-count.count (length T.rules) (length c.commit.new.self.names) few short c.reserve.new.self c.in_ok-reserve.ensures)
 
 pub fill_all-requires-clause-ready : goal.fill_all-requires-clause-ready
 fill_all-requires-clause-ready g c =
