@@ -39,13 +39,13 @@ returns-in-Some-clause-handed g c = λ whole.
     let kept = c.serving.invariant.handed whole in
     let all = subst (λ (w : Option (List ℕ)). HandsOnBy w (g.P.Sink.handed c.serve_next.new.sink) (g.P.Sink.written c.serve_next.new.sink) (Some c.in-Some.end)) kept (c.in-Some.ensures.handed kept) in
     subst (λ (w : Option (List ℕ)). IsSession (g.I.Source.rest c.args.source.now) (g.I.Source.rest c.next_line-next.new.source) w (g.P.Sink.handed c.serve_next.new.sink) c.args.seat.now c.serve_next.new.seat c.in-Some.end)
-        (sym whole)
-        (ends g.I.Source.rest g.I.Source.faults (g.I.Source.rest c.args.source.now) c.serving.source c.next_line-next.new.source (g.P.Sink.written c.args.sink.now) (g.P.Sink.written c.serving.sink)
-        (g.P.Sink.handed c.serve_next.new.sink) (g.P.Sink.faults c.serving.sink) (g.P.Sink.faults c.serve_next.new.sink) c.args.seat.now c.serving.seat c.serve_next.new.seat c.serving.room.lines c.next_line-next.new.self
-        c.next_line-next.result c.serving.room.table.editions c.serve_next.new.room.table.editions c.serving.invariant.so_far c.next_line-next.ensures.next c.next_line-next.ensures.cause c.next_line-next.ensures.over
-        c.in-Some.end
-        (next_handed c.serving.seat c.serve_next.new.seat c.serving.invariant.so_far.entries c.serve_next.new.room.table.editions (g.P.Sink.written c.serving.sink) (g.P.Sink.written c.serve_next.new.sink)
-        (g.P.Sink.handed c.serve_next.new.sink) _ _ _ _ _ all (c.in-Some.ensures.serves c.serving.invariant.so_far.entries c.serving.invariant.so_far.keeps)))
+    (sym whole)
+    (ends g.I.Source.rest g.I.Source.faults (g.I.Source.rest c.args.source.now) c.serving.source c.next_line-next.new.source (g.P.Sink.written c.args.sink.now) (g.P.Sink.written c.serving.sink)
+    (g.P.Sink.handed c.serve_next.new.sink) (g.P.Sink.faults c.serving.sink) (g.P.Sink.faults c.serve_next.new.sink) c.args.seat.now c.serving.seat c.serve_next.new.seat c.serving.room.lines c.next_line-next.new.self
+    c.next_line-next.result c.serving.room.table.editions c.serve_next.new.room.table.editions c.serving.invariant.so_far c.next_line-next.ensures.next c.next_line-next.ensures.cause c.next_line-next.ensures.over
+    c.in-Some.end
+    (next_handed c.serving.seat c.serve_next.new.seat c.serving.invariant.so_far.entries c.serve_next.new.room.table.editions (g.P.Sink.written c.serving.sink) (g.P.Sink.written c.serve_next.new.sink)
+    (g.P.Sink.handed c.serve_next.new.sink) _ _ _ _ _ all (c.in-Some.ensures.serves c.serving.invariant.so_far.entries c.serving.invariant.so_far.keeps)))
 
 pub returns-in-Some-clause-cause : goal.returns-in-Some-clause-cause
 returns-in-Some-clause-cause g c =
