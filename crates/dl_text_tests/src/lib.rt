@@ -1,5 +1,6 @@
-//! Tests of bytes, lines, numbers and texts, and of what they say: streams, lines of sources, orders, rows and regions, marks, names and
-//! literals, pairs of literals, what is read from texts and asked by lines, and theories under edits. Nothing here concludes.
+//! Tests of bytes, lines, numbers and texts, and of what they say: streams, lines of sources, orders, rows and regions, lists in pages,
+//! marks, names and literals, pairs of literals, what is read from texts and asked by lines, and theories under edits. Nothing here
+//! concludes.
 //!
 //! They are apart from what they test, since a crate with tests is proved twice, with them and without. Each file is about one subject.
 #![tactic(auto)]
@@ -14,6 +15,8 @@ mod marks;
 mod orders;
 #[cfg(test)]
 mod packed;
+#[cfg(test)]
+mod pages;
 #[cfg(test)]
 mod pairs;
 #[cfg(test)]

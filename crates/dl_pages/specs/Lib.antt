@@ -1,0 +1,4 @@
+pub mod Paged
+pub mod Pages
+pub mod KeptPage
+pub mod KeptPaged

@@ -1,0 +1,12 @@
+//! Lists in pages that can be shared: what a draft and its editions keep in common.
+//!
+//! A `Paged` is one list. Its elements stand in pages of 256, and each page is either the list's own or shared with other lists. A page
+//! that is shared is never written: `own` takes a copy of the one page first. `freeze` gives all pages up for sharing, and `share` then
+//! makes an equal list at the cost of a count for each page. A contract sees the elements, which places may be written, and how many
+//! elements more go in without memory (`specs/Paged.antt`). Begin with `paged.rt`.
+#![tactic(auto)]
+
+mod page;
+mod paged;
+
+pub use paged::Paged;
