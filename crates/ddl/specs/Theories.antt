@@ -1,7 +1,7 @@
 -- A file that is to be a theory.
 use Rattle.std.specs.Prelude.{◌≡◌, ℕ, ◌<◌, ◌≤◌, List, ◌++◌, ◌∷◌, [], length, Option, Some, codes, decimal}
 use Rattle.dl_theory.specs.Lists.{TheoryLists}
-use Rattle.dl_net.specs.Numbers.{NetLists}
+use Rattle.dl_graph.specs.Numbers.{NetLists}
 use Rattle.dl_read.specs.declared.file.ReadStop.TheVariants as stop
 use Rattle.dl_read.specs.Files.{Loads, IsReadStop}
 use Rattle.dl_print.specs.Text.{refusal_text}

@@ -1,7 +1,6 @@
 //! The conclusions of a theory.
 
 ghost use Rattle.std.specs.Prelude.{◌≡◌, ◌<◌, IfOk};
-ghost use Rattle.std.specs.Arc.{arc_value};
 ghost use Rattle.dl_conclusions.specs.Conclusions.{AreConclusions};
 ghost use Rattle.dl_update.specs.declared.families.Families.TheVariants as families_of;
 ghost use Rattle.dl_update.specs.RightIn.{AreRightIn};
@@ -9,8 +8,8 @@ ghost use Rattle.dl_update.specs.RightIn.{AreRightIn};
 use dl_conclusions::Concluded;
 use dl_lit::{Family, Memory};
 use dl_marks::{Marks, Steps};
-use dl_net::NumberedTheory;
-use dl_update::{Draft, FamilyNet};
+use dl_net::{Net, NumberedTheory};
+use dl_update::{Draft, Families};
 use std::alloc::Global;
 use std::marker::Brand;
 use std::sync::ledger::{Blank, Ledger};
@@ -21,7 +20,7 @@ fn saturated<L: Ledger>(
     family: Family,
     theory: NumberedTheory,
     blank: Blank,
-) -> Result<Draft<FamilyNet>, Memory>
+) -> Result<Draft, Memory>
     requires name { blank.name ≡ L.name }
     requires parts { blank.parts ≡ L.parts }
     requires some { 0 < blank.parts }
@@ -29,14 +28,14 @@ fn saturated<L: Ledger>(
     ensures families { IfOk result (λ draft. draft.families ≡ families_of.One family) }
 {
     let mut steps = Steps::<L>::make(blank);
-    Draft::<FamilyNet>::saturate_in(alloc, theory, family, &mut steps)
+    let net = Net::load(theory)?;
+    Draft::saturate(alloc, net, Families::One(family), &mut steps)
 }
 
-// What a draft shares once it is frozen: its net, and marks that are right in its family.
-fn shared(draft: &mut Draft<FamilyNet>) -> Result<(FamilyNet, Marks), Memory>
-    ensures theory { IfOk result (λ shared. (arc_value shared.0.net).theory ≡ draft.old.theory) }
-    ensures family { IfOk result (λ shared. families_of.One shared.0.family ≡ draft.old.families) }
-    ensures right { IfOk result (λ shared. AreRightIn (families_of.One shared.0.family) (arc_value shared.0.net).theory (arc_value shared.0.net).names shared.1) }
+// What a draft shares once it is frozen: its net, and marks that are right in its families.
+fn shared(draft: &mut Draft) -> Result<(Net, Marks), Memory>
+    ensures theory { IfOk result (λ shared. shared.0.theory ≡ draft.old.theory) }
+    ensures right { IfOk result (λ shared. AreRightIn draft.old.families shared.0.theory shared.0.names shared.1) }
 {
     draft.freeze()?;
     draft.share()
@@ -54,5 +53,5 @@ pub fn conclusions(
     let shared = shared(&mut draft);
     drop(draft);
     let (net, marks) = shared?;
-    Concluded::make(alloc, net.net, marks, family)
+    Concluded::make(alloc, net, marks, family)
 }

@@ -1,6 +1,6 @@
 -- What the nodes of the defeasible family mean, and that at the end of a run exactly what follows has fired.
 use Rattle.std.proofs.Common.{◌≡◌, ℕ, zero, suc, ◌+◌, ◌*◌, ◌<◌, ◌≤◌, Bool, true, false, Some, List, [], ◌∷◌, length, inl, inr, sym, subst, ap, refl, arith, true≢false}
-use Rattle.std.specs.Prelude.{◌⊎◌, Contains, IsTrue, nat_lt, MatchOption}
+use Rattle.std.specs.Prelude.{◌⊎◌, Contains, IsTrue, MatchOption}
 use Rattle.dl_base.proofs.Members.{only}
 use Rattle.dl_lit.specs.declared.literal.Tagged.{Tagged}
 use Rattle.dl_lit.specs.declared.literal.Family.{Family}
@@ -9,26 +9,27 @@ use Rattle.dl_lit.specs.Literal.{tagged}
 use Rattle.dl_theory.specs.Conditions.{Condition}
 use Rattle.dl_theory.specs.Derivations.{Follows}
 use Rattle.dl_theory.specs.Verdicts.{needs}
-use Rattle.dl_net.specs.Counting.{times}
-use Rattle.dl_net.specs.Numbers.{NetLists, IsNumbered, literal_at, rule_at}
+use Rattle.dl_graph.specs.Counting.{times}
+use Rattle.dl_graph.specs.Numbers.{NetLists, IsNumbered, HasRule, literal_at, rule_at}
+use Rattle.dl_graph.proofs.Slots.{rule_within}
 use Rattle.dl_fill.specs.declared.wire.Gate.TheVariants.{Never}
 use Rattle.dl_fill.specs.Wires.{inputs_at}
 use Rattle.dl_fill.specs.Reads.{Reads, basis_at}
 use Rattle.dl_fill.specs.Steps.{tag_at}
 use Rattle.dl_fill.specs.Gates.{Passes}
 use Rattle.dl_marks.specs.Marks.{Marking}
-use Rattle.dl_net.specs.Region.{Numbers}
+use Rattle.dl_graph.specs.Region.{Numbers}
 use Rattle.dl_theory.specs.Lists.{Supports, Opposes}
 use Rattle.std.proofs.lemmas.Bool.{ltb-true}
 use Rattle.dl_fill.specs.Rivals.{Defending}
-use Rattle.dl_fill.specs.Before.{Before, tag_of, is_inside, before_of, IsExact, IsExactOutside}
+use Rattle.dl_fill.specs.Before.{Before, tag_of, is_rule, is_inside, before_of, IsExact, IsExactOutside}
 use Rattle.dl_fill.specs.Prepared.{is_touched_at}
 use Rattle.dl_fill.specs.Touched.{Touches}
 use Rattle.dl_fill.proofs.Attacks.{attack_meets}
 use Rattle.dl_fill.proofs.Touching.{supports_touched, opposes_touched}
 use Rattle.dl_fill.specs.Meanings.{HasTag, IsOnAt, IsOffAt, IsSupported, IsUnsupported, IsAnswered, IsUnanswered}
 use Rattle.dl_fill.specs.Families.{IsSound}
-use Rattle.dl_net.specs.declared.link.Link.TheVariants.{Defends}
+use Rattle.dl_graph.specs.declared.link.Link.TheVariants.{Defends}
 use Rattle.dl_fill.proofs.Links.{defends_listing}
 use Rattle.dl_fill.proofs.Gating.{IsGotOutside, open_gate, on_sound, off_sound, on_passes, off_passes, supported_sound, supported_passes, unsupported_sound, unsupported_passes, answered_sound, answered_passes, unanswered_sound, unanswered_passes}
 use Rattle.dl_fill.proofs.Concluding.{plus_sound, minus_sound, plus_passes, minus_passes}
@@ -91,12 +92,12 @@ module _ (N : NetLists) (numbered : IsNumbered N) (m : Marking) (region : Number
         unanswered_sound N numbered got Node 8 (Defending N.theory) Defends (defends_listing N numbered) Blocking Blocking 4 5 (omega arith) (omega arith) u
         (λ i m. at 4 i (omega arith) m) (λ i m. at 5 i (omega arith) m) h
     concluded (suc (suc (suc (suc (suc (suc (suc (suc k)))))))) i here reads h =
-        (open_gate Node (nat_lt i (length N.theory.rules)) Never
+        (open_gate Node (is_rule N i) Never
         (inputs_at N inside 8 block_wires (suc (suc (suc (suc (suc (suc (suc (suc k)))))))) i) h).1
 
   -- what fires, where nodes have fired that are touched and whose gates are passed
   module _ (outside : IsExactOutside N (before_of m region) Blocking) (rules : List ℕ) (touches : Touches N region.members rules)
-      (places : ℕ) (names_fit : length N.names ≤ places) (rules_fit : length N.theory.rules ≤ places) (Fired : ℕ → Type 0)
+      (places : ℕ) (names_fit : length N.names ≤ places) (rules_fit : length N.rules ≤ places) (Fired : ℕ → Type 0)
       (passes : (k i : ℕ) → k < 8 → i < places → is_touched_at 4 region.members rules k i ≡ true
       → Passes Fired (block_gate N (before_of m region) k i) (inputs_at N (is_inside region.members) 8 block_wires k i) → Fired (i * 8 + k))
       (got : Tagged → Type 0) (follows : (y : Tagged) → got y → Follows N.theory y)
@@ -106,23 +107,23 @@ module _ (N : NetLists) (numbered : IsNumbered N) (m : Marking) (region : Number
 
     on_fires : (r : ℕ) → 0 < times r rules → IsOnAt N got Blocking r → Fired (r * 8 + 4)
     on_fires r t m =
-        passes 4 r (omega arith) (omega (arith, m.0, rules_fit)) (rule_touched 4 region.members rules 4 r (omega arith) t)
+        passes 4 r (omega arith) (omega (arith, rule_within N r m.0, rules_fit)) (rule_touched 4 region.members rules 4 r (omega arith) t)
         (on_passes N numbered b Blocking outside Fired 8 0 (omega arith) r got follows m (fired true))
 
     off_fires : (r : ℕ) → 0 < times r rules → IsOffAt N got Blocking r → Fired (r * 8 + 5)
     off_fires r t m =
-        passes 5 r (omega arith) (omega (arith, m.0, rules_fit)) (rule_touched 4 region.members rules 5 r (omega arith) t)
+        passes 5 r (omega arith) (omega (arith, rule_within N r m.0, rules_fit)) (rule_touched 4 region.members rules 5 r (omega arith) t)
         (off_passes N numbered b Blocking outside Fired 8 1 (omega arith) r got follows m (fired false))
 
     -- at a member of the region
     module _ (q : ℕ) (here : is_inside region.members q ≡ true) (lt : q < length N.names) where
-      supporter : (r : ℕ) → r < length N.theory.rules → Supports (literal_at N q) (rule_at N r) → 0 < times r rules
+      supporter : (r : ℕ) → HasRule N r → Supports (literal_at N q) (rule_at N r) → 0 < times r rules
       supporter r inside h = supports_touched N numbered region.members rules touches q (member q here) lt r inside h
 
-      attacker : (u : ℕ) → u < length N.theory.rules → Opposes N.theory (literal_at N q) (rule_at N u) → 0 < times u rules
+      attacker : (u : ℕ) → HasRule N u → Opposes N.theory (literal_at N q) (rule_at N u) → 0 < times u rules
       attacker u inside h = opposes_touched N numbered region.members rules touches q (member q here) lt u inside h
 
-      defender : (u t : ℕ) → t < length N.theory.rules → Opposes N.theory (literal_at N q) (rule_at N u) → Defending N.theory (rule_at N u) (rule_at N t) → 0 < times t rules
+      defender : (u t : ℕ) → HasRule N t → Opposes N.theory (literal_at N q) (rule_at N u) → Defending N.theory (rule_at N u) (rule_at N t) → 0 < times t rules
       defender u t inside o d =
           supporter t inside (attack_meets N.theory (rule_at N t).head (literal_at N q) (rule_at N u).head d.1 o, d.2)
 
@@ -138,13 +139,13 @@ module _ (N : NetLists) (numbered : IsNumbered N) (m : Marking) (region : Number
 
       answered_fires : (u : ℕ) → Opposes N.theory (literal_at N q) (rule_at N u) → IsAnswered N got Blocking Blocking u → Fired (u * 8 + 6)
       answered_fires u o m =
-          passes 6 u (omega arith) (omega (arith, m.0, rules_fit)) (rule_touched 4 region.members rules 6 u (omega arith) (attacker u m.0 o))
+          passes 6 u (omega arith) (omega (arith, rule_within N u m.0, rules_fit)) (rule_touched 4 region.members rules 6 u (omega arith) (attacker u m.0 o))
           (answered_passes N numbered got Fired 8 (Defending N.theory) Defends (defends_listing N numbered) Blocking Blocking 5 4 (omega arith) (omega arith) u m (off_fires u (attacker u m.0 o))
           (λ t defends on. on_fires t (defender u t on.0 o defends) on))
 
       unanswered_fires : (u : ℕ) → Opposes N.theory (literal_at N q) (rule_at N u) → IsUnanswered N got Blocking Blocking u → Fired (u * 8 + 7)
       unanswered_fires u o m =
-          passes 7 u (omega arith) (omega (arith, m.0, rules_fit)) (rule_touched 4 region.members rules 7 u (omega arith) (attacker u m.0 o))
+          passes 7 u (omega arith) (omega (arith, rule_within N u m.0, rules_fit)) (rule_touched 4 region.members rules 7 u (omega arith) (attacker u m.0 o))
           (unanswered_passes N numbered got Fired 8 (Defending N.theory) Defends (defends_listing N numbered) Blocking Blocking 4 5 (omega arith) (omega arith) u m (on_fires u (attacker u m.0 o))
           (λ t defends off. off_fires t (defender u t off.0 o defends) off))
 

@@ -3,8 +3,8 @@ use Rattle.std.specs.Prelude.{ℕ, zero, suc, Bool, true, false, cond, Option, S
 use Rattle.dl_lit.specs.declared.literal.Family.{Family}
 use Rattle.dl_lit.specs.declared.literal.Family.TheVariants.{Definite, Blocking, Propagating, Support}
 use Rattle.dl_lit.specs.declared.literal.Tag.{Tag}
-use Rattle.dl_net.specs.Numbers.{NetLists}
-use Rattle.dl_net.specs.declared.link.Link.TheVariants.{Same, Uses, Backs, Opposes, Defends}
+use Rattle.dl_graph.specs.Numbers.{NetLists}
+use Rattle.dl_graph.specs.declared.link.Link.TheVariants.{Same, Uses, Backs, Opposes, Defends}
 use Rattle.dl_fill.specs.declared.wire.Wire.{Wire}
 use Rattle.dl_fill.specs.declared.basis.Basis.{Basis}
 use Rattle.dl_fill.specs.declared.basis.Basis.TheVariants.{Prevailing, Failing}
@@ -12,7 +12,7 @@ use Rattle.dl_fill.specs.declared.wire.Gate.{Gate}
 use Rattle.dl_fill.specs.declared.wire.Gate.TheVariants.{Every, Either, Never}
 use Rattle.dl_fill.specs.Families.{FamilyTable}
 use Rattle.dl_fill.specs.Filled.{either_kind}
-use Rattle.dl_fill.specs.Before.{Before, tag_of, attack_fails, attack_holds, outside_is_on, outside_is_off, on_gate, off_gate, plus_gate, minus_gate}
+use Rattle.dl_fill.specs.Before.{Before, tag_of, is_rule, attack_fails, attack_holds, outside_is_on, outside_is_off, on_gate, off_gate, plus_gate, minus_gate}
 
 -- kinds: 0 concluded, 1 refuted, 2 supported, 3 unsupported (of a literal);
 -- 4 on, 5 off, 6 answered, 7 on and unanswered (of a rule)
@@ -62,7 +62,7 @@ block_gate N b zero q = cond (nat_lt q (length N.names)) (literal_gate N b.marke
 block_gate N b (suc zero) q = cond (nat_lt q (length N.names)) (literal_gate N b.marked 1 q) Never
 block_gate N b (suc (suc zero)) q = cond (nat_lt q (length N.names)) (literal_gate N b.marked 2 q) Never
 block_gate N b (suc (suc (suc zero))) q = cond (nat_lt q (length N.names)) (literal_gate N b.marked 3 q) Never
-block_gate N b (suc (suc (suc (suc k)))) r = cond (nat_lt r (length N.theory.rules)) (rule_gate N b k r) Never
+block_gate N b (suc (suc (suc (suc k)))) r = cond (is_rule N r) (rule_gate N b k r) Never
 
 -- the family alone is filled
 abbrev pub block_fills : Family → Bool

@@ -4,6 +4,7 @@ ghost use Rattle.std.specs.Prelude.{◌≡◌, ◌<◌, ◌^◌, ◌-◌, ◌+�
 ghost use Rattle.std.specs.Option.{option_copied};
 ghost use Rattle.dl_calls.specs.Histories.{IsLegal, state_after};
 ghost use Rattle.dl_board.specs.Boards.{opening_board};
+ghost use Rattle.dl_update.specs.declared.families.Families.TheVariants as families_of;
 
 use crate::opening::opened;
 use dl_base::Memory;
@@ -21,6 +22,7 @@ pub struct Board<L: Ledger> {
     /// The theory that the history begins from.
     pub(crate) start: Theory,
     pub(crate) draft: Draft,
+    ghost all_families: { draft.families ≡ families_of.All },
     pub(crate) editions: Vec<Held>,
     pub(crate) entries: Vec<Entry>,
     pub(crate) count: u64,

@@ -1,6 +1,6 @@
 -- What right marks say of literals, one by one.
-use Rattle.std.proofs.Common.{ℕ, ◌<◌, ◌≤◌, Bool, true, false, List, length, map, refl, sym, subst, arith, if◌then◌else◌}
-use Rattle.std.specs.Prelude.{Decides}
+use Rattle.std.proofs.Common.{◌≡◌, ℕ, ◌<◌, ◌≤◌, Bool, true, false, None, List, length, map, refl, sym, subst, arith, if◌then◌else◌}
+use Rattle.std.specs.Prelude.{◌↔◌, Decides}
 use Rattle.std.proofs.lemmas.List.Elements.{All-map, All-weaker}
 use Rattle.std.proofs.lemmas.Simd.{map-map}
 use Rattle.dl_lit.specs.declared.literal.Literal.{Literal}
@@ -12,7 +12,7 @@ use Rattle.dl_theory.specs.Listings.{AreLiterals}
 use Rattle.dl_theory.specs.Verdicts.{IsVerdict}
 use Rattle.dl_theory.specs.declared.answer.Verdict.TheVariants.{Proved, Refuted, Neither}
 use Rattle.dl_marks.specs.Marks.{Marking, places, marked}
-use Rattle.dl_net.specs.Numbers.{NetLists, literal_at}
+use Rattle.dl_graph.specs.Numbers.{NetLists, literal_at}
 use Rattle.dl_fill.specs.Before.{tag_of}
 use Rattle.dl_fill.specs.Filled.{IsRight}
 use Rattle.dl_fill.proofs.Written.{right_decides}
@@ -41,3 +41,10 @@ module _ (N : NetLists) (m : Marking) (f : Family) (room : length N.names ≤ pl
     right = All-map (λ (c : Conclusion). IsVerdict N.theory f c.literal c.verdict) (conclusion_at N m f) order
         (All-weaker (λ n. n < length N.names) (λ n. IsVerdict N.theory f (literal_at N n) (verdict_at m f n)) verdict_right order h.within);
   }
+
+-- the order of what is read of a net is that of the net
+pub order_read : (N M : NetLists) (order : List ℕ) → M ≡ record N { pending = None; frozen = false } → IsOrder M order ↔ IsOrder N order
+order_read N M order is = (
+  λ h. let o = subst (λ (G : NetLists). IsOrder G order) is h in record { within = o.within; listed = o.listed },
+  λ h. subst (λ (G : NetLists). IsOrder G order) (sym is) (record { within = h.within; listed = h.listed }),
+)

@@ -4,7 +4,7 @@ use Rattle.std.proofs.lemmas.List.Sums.{passes_at_first}
 use Rattle.dl_lit.specs.declared.literal.Literal.{Literal}
 use Rattle.dl_lit.specs.Literal.{literal_eq}
 use Rattle.dl_lit.specs.Order.{literal_eq-Decides}
-use Rattle.dl_net.specs.Numbers.{NetLists, no_literal, literal_at, number}
+use Rattle.dl_graph.specs.Numbers.{NetLists, no_literal, literal_at, number}
 
 -- the literal at the number that was found is the one that was sought
 pub found_at : (N : NetLists) (q : Literal) (n : ℕ) → n < length N.names → n ≡ number N q → literal_at N n ≡ q

@@ -22,8 +22,8 @@ use Rattle.dl_lit.specs.Literal.{complement}
 use Rattle.dl_lit.specs.Order.{bytes_cmp, literal_cmp, literal_total, exact_literals}
 use Rattle.dl_theory.specs.Listings.{Mentions, AreLiterals}
 use Rattle.dl_theory.proofs.Closure.{complement_twice, mentions_complement}
-use Rattle.dl_net.specs.Numbers.{NetLists, IsNumbered, no_literal, literal_at, number, number_of_other}
-use Rattle.dl_net.proofs.FindLemmas.{other_finds}
+use Rattle.dl_graph.specs.Numbers.{NetLists, IsNumbered, no_literal, literal_at, number, number_of_other}
+use Rattle.dl_graph.proofs.FindLemmas.{other_finds}
 use Rattle.dl_conclusions.specs.declared.placed.Placed.{Placed}
 use Rattle.dl_conclusions.specs.Orders.{IsOrder}
 use Rattle.dl_conclusions.specs.Placing.{IsPlaced, ArePlaced, placed_cmp, placed_total, pair_numbers}

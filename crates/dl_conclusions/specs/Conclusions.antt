@@ -7,7 +7,7 @@ use Rattle.dl_theory.specs.Verdicts.{IsVerdict}
 use Rattle.dl_theory.specs.declared.answer.Verdict.{Verdict}
 use Rattle.dl_theory.specs.declared.answer.Verdict.TheVariants.{Proved, Refuted, Neither}
 use Rattle.dl_marks.specs.Marks.{Marking, marked}
-use Rattle.dl_net.specs.Numbers.{NetLists, no_literal, literal_at}
+use Rattle.dl_graph.specs.Numbers.{NetLists, no_literal, literal_at}
 use Rattle.dl_fill.specs.Before.{tag_of}
 use Rattle.dl_conclusions.specs.declared.conclusion.Conclusion.{Conclusion}
 

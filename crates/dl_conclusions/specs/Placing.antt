@@ -7,7 +7,7 @@ use Rattle.dl_lit.specs.Borrowed.{literal_of}
 use Rattle.dl_lit.specs.Name.{is_name}
 use Rattle.dl_lit.specs.Order.{literal_cmp, literal_total}
 use Rattle.dl_theory.specs.Listings.{Mentions}
-use Rattle.dl_net.specs.Numbers.{NetLists, literal_at, number_of_other}
+use Rattle.dl_graph.specs.Numbers.{NetLists, literal_at, number_of_other}
 use Rattle.dl_conclusions.specs.declared.placed.Placed.{Placed}
 
 -- the first n bytes as one number, the first byte highest, with zeros where there are fewer

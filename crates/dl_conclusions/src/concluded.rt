@@ -1,7 +1,6 @@
 //! The conclusions of a theory, without a list of them.
 
 ghost use Rattle.std.specs.Prelude.{◌≡◌, ◌<◌, ◌≤◌, IfOk, length, slice_index_or};
-ghost use Rattle.std.specs.Arc.{arc_value};
 ghost use Rattle.dl_lit.specs.Borrowed.{literal_of};
 ghost use Rattle.dl_marks.specs.Marks.{places};
 ghost use Rattle.dl_fill.specs.Filled.{IsRight};
@@ -12,15 +11,14 @@ use crate::verdict::marked_verdict;
 use dl_base::Memory;
 use dl_lit::{Family, LiteralRef};
 use dl_marks::Marks;
-use dl_net::NumberedNet;
+use dl_net::Net;
 use dl_theory::Verdict;
 use std::alloc::Global;
 use std::marker::Model;
-use std::sync::Arc;
 
 /// A theory that is concluded in a family: its conclusions stand in order, and each is read off marks when it is asked for.
 pub struct Concluded {
-    net: Arc<NumberedNet>,
+    net: Net,
     marks: Marks,
     family: Family,
     /// The numbers of the literals that the theory mentions, in the order of the literals.
@@ -51,17 +49,12 @@ impl Model for Concluded {
 }
 
 impl Concluded {
-    /// The conclusions of a shared net's theory in a family in which the marks are right. `Memory` where there is none for the order of
-    /// the literals.
-    pub fn make(
-        alloc: Global,
-        net: Arc<NumberedNet>,
-        marks: Marks,
-        family: Family,
-    ) -> Result<Concluded, Memory>
-        requires room { length (arc_value net).names ≤ places marks }
-        requires right { IsRight (arc_value net) marks family }
-        ensures { IfOk result (AreConclusions (arc_value net).theory family) }
+    /// The conclusions of a net's theory in a family in which the marks are right. `Memory` where there is none for the order of the
+    /// literals.
+    pub fn make(alloc: Global, net: Net, marks: Marks, family: Family) -> Result<Concluded, Memory>
+        requires room { length net.names ≤ places marks }
+        requires right { IsRight net marks family }
+        ensures { IfOk result (AreConclusions net.theory family) }
     {
         let order = order_of(alloc, &net.graph())?;
         Ok(Concluded {

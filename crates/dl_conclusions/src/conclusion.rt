@@ -9,9 +9,9 @@ ghost use Rattle.dl_conclusions.specs.Orders.{IsOrder};
 
 use crate::verdict::marked_verdict;
 use dl_base::Memory;
+use dl_graph::Graph;
 use dl_lit::{Family, Literal};
 use dl_marks::Marks;
-use dl_net::Net;
 use dl_theory::Verdict;
 use std::alloc::Global;
 use std::marker::Model;
@@ -67,7 +67,7 @@ impl Conclusions {
 /// The literals with these numbers, each with what marks say of it.
 fn with_verdicts(
     alloc: Global,
-    net: &Net,
+    net: &Graph<'_>,
     marks: &Marks,
     family: Family,
     numbers: &[usize],
@@ -88,7 +88,7 @@ fn with_verdicts(
 /// The conclusions in a family, where the order of the literals is known. `Memory` where there is none for the list.
 pub fn ordered_conclusions(
     alloc: Global,
-    net: &Net,
+    net: &Graph<'_>,
     marks: &Marks,
     family: Family,
     order: &[usize],

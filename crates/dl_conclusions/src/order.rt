@@ -7,7 +7,7 @@ ghost use Rattle.dl_conclusions.specs.Placing.{ArePlaced, pair_numbers};
 
 use crate::placed::{Placed, prefix_of};
 use dl_base::Memory;
-use dl_net::Graph;
+use dl_graph::Graph;
 use std::alloc::Global;
 
 /// The positive literals that the theory mentions, in the order of their numbers. Of a literal and its complement exactly one is

@@ -6,9 +6,9 @@ ghost use Rattle.dl_fill.specs.Filled.{IsRight};
 ghost use Rattle.dl_theory.specs.Verdicts.{IsVerdict};
 ghost use Rattle.dl_conclusions.specs.Conclusions.{verdict_at};
 
+use dl_graph::Graph;
 use dl_lit::{Family, Literal, Tag};
 use dl_marks::Marks;
-use dl_net::Net;
 use dl_theory::Verdict;
 
 /// What marks say of the literal with a number.
@@ -31,7 +31,7 @@ pub(crate) fn marked_verdict(marks: &Marks, family: Family, number: usize) -> Ve
 }
 
 /// What right marks say of a literal. One without a number is not mentioned, and so refuted.
-pub fn verdict_of(net: &Net, marks: &Marks, family: Family, literal: &Literal) -> Verdict
+pub fn verdict_of(net: &Graph<'_>, marks: &Marks, family: Family, literal: &Literal) -> Verdict
     requires room { length net.now.names ≤ places marks.now }
     requires right { IsRight net.now marks.now family }
     ensures { IsVerdict net.now.theory family literal.now result }

@@ -7,8 +7,8 @@ use Rattle.std.proofs.lemmas.List.Elements.{All-weaker, All-contains, All-append
 use Rattle.std.proofs.lemmas.Option.{slice_get_within, get_or_from_slice_get}
 use Rattle.dl_lit.specs.declared.literal.Literal.{Literal}
 use Rattle.dl_theory.specs.Verdicts.{Reaches}
-use Rattle.dl_net.specs.Region.{Numbers}
-use Rattle.dl_net.specs.Numbers.{NetLists, IsNumbered, no_literal, number, literal_at}
+use Rattle.dl_graph.specs.Region.{Numbers}
+use Rattle.dl_graph.specs.Numbers.{NetLists, IsNumbered, no_literal, number, literal_at}
 use Rattle.dl_fill.proofs.Links.{number_finds, number_inside}
 use Rattle.dl_derive.specs.Back.{Gains}
 use Rattle.dl_cone.specs.Walked.{IsNumberOf}

@@ -1,24 +1,22 @@
 -- What a literal raises, by numbers and in the theory's own terms.
-use Rattle.std.proofs.Common.{◌≡◌, ℕ, ◌<◌, List, [], length, get_or, inl, inr, sym, subst, ap, ◌∙◌, arith}
+use Rattle.std.proofs.Common.{◌≡◌, ℕ, ◌<◌, List, length, inl, inr, sym, subst, ap, ◌∙◌, arith}
 use Rattle.std.specs.Prelude.{◌↔◌, Contains}
-use Rattle.std.proofs.lemmas.Bool.{cases_lt}
-use Rattle.std.proofs.lemmas.List.{get_or_default, get_or-map}
 use Rattle.std.proofs.lemmas.List.Elements.{All-weaker, Contains-get_or}
 use Rattle.dl_base.proofs.Members.{Contains-mapped, mapped_from}
 use Rattle.dl_lit.specs.declared.literal.Literal.{Literal}
 use Rattle.dl_theory.specs.declared.rule.Rule.{Rule}
 use Rattle.dl_theory.specs.declared.rule.Pair.{Pair}
 use Rattle.dl_theory.specs.declared.edit.Edit.TheVariants.{DropRule}
-use Rattle.dl_theory.specs.Lists.{IsWellFormed, labels, attackers}
+use Rattle.dl_theory.specs.Lists.{IsWellFormed, attackers}
 use Rattle.dl_theory.specs.Cones.{IsOrAttacks, IsSeed, IsSeedOfPair, RaisesTo}
-use Rattle.dl_net.specs.Region.{Numbers}
-use Rattle.dl_net.specs.Numbers.{NetLists, IsNumbered, attackers_row, body_row, next, back, number, literal_at, rule_at, no_literal, no_rule}
-use Rattle.dl_net.specs.declared.link.Link.TheVariants.{Uses}
-use Rattle.dl_net.proofs.JoinLemmas.{label_once}
+use Rattle.dl_graph.specs.Region.{Numbers}
+use Rattle.dl_graph.specs.Numbers.{NetLists, IsNumbered, HasRule, attackers_row, body_row, next, back, number, literal_at, rule_at, no_literal}
+use Rattle.dl_graph.specs.declared.link.Link.TheVariants.{Uses}
+use Rattle.dl_graph.proofs.LabelLemmas.{label_once}
+use Rattle.dl_graph.proofs.Slots.{rule_in, number_of_rule, row_has}
 use Rattle.dl_fill.proofs.Links.{number_finds, number_inside, attacker_named, head_in, body_sound, body_complete, links_turned}
-use Rattle.dl_fill.proofs.Rows.{row_outside}
 use Rattle.dl_fill.proofs.Written.{contains_times, times_contains}
-use Rattle.dl_net.specs.Counting.{times}
+use Rattle.dl_graph.specs.Counting.{times}
 use Rattle.dl_derive.specs.Back.{Is, FromRow, Gains}
 use Rattle.dl_derive.proofs.Gaining.{gains_then}
 use Rattle.dl_cone.specs.Walked.{IsNumberOf, IsOfRivals}
@@ -76,23 +74,21 @@ module _ (N : NetLists) (numbered : IsNumbered N) where
       (λ n h. elim h.1.1 [ inl e ↦ inl (one_number p n lp h.0 e) | inr e ↦ inr (one_number o n lo h.0 e) ])
 
   -- a rule that uses a literal has it in its body
-  using_sound : (q r : ℕ) → Contains (next N Uses q) r → (r < length N.theory.rules) × Contains (rule_at N r).body (literal_at N q)
+  using_sound : (q r : ℕ) → Contains (next N Uses q) r → HasRule N r × Contains (rule_at N r).body (literal_at N q)
   using_sound q r m =
       let turned : 0 < times q (back N Uses r) = omega (arith, contains_times r (next N Uses q) m, links_turned N Uses q r) in
-      elim (cases_lt r (length N.theory.rules)) [
-        | inl lt ↦ (lt, (body_sound N numbered r lt q turned).0)
-        | inr ge ↦ absurd (omega (arith, turned, ap (times q) (row_outside (body_row N) N.theory.rules r ge)))
-      ]
+      let has = (row_has N (body_row N) r q turned).0 in
+      (has, (body_sound N numbered r has q turned).0)
 
-  using_complete : (q r : ℕ) → q < length N.names → r < length N.theory.rules → Contains (rule_at N r).body (literal_at N q) → Contains (next N Uses q) r
-  using_complete q r within lt m =
+  using_complete : (q r : ℕ) → q < length N.names → HasRule N r → Contains (rule_at N r).body (literal_at N q) → Contains (next N Uses q) r
+  using_complete q r within has m =
       let here : 0 < times (number N (literal_at N q)) (back N Uses r) =
-      subst (λ (x : Literal). 0 < times (number N x) (back N Uses r)) m.2 (body_complete N numbered r lt m.0 (literal_at N q) m.1) in
+      subst (λ (x : Literal). 0 < times (number N x) (back N Uses r)) m.2 (body_complete N numbered r has m.0 (literal_at N q) m.1) in
       let turned : 0 < times q (back N Uses r) = subst (λ (v : ℕ). 0 < times v (back N Uses r)) (numbered.distinct q within) here in
       times_contains r (next N Uses q) (omega (arith, turned, links_turned N Uses q r))
 
-  pub using_inside : (q r : ℕ) → Contains (next N Uses q) r → r < length N.theory.rules
-  using_inside q r m = (using_sound q r m).0
+  pub using_there : (q r : ℕ) → Contains (next N Uses q) r → HasRule N r
+  using_there q r m = (using_sound q r m).0
 
   -- the heads of the rules that use a literal, and what attacks them
   pub raising : (q : ℕ) → q < length N.names → (n : ℕ)
@@ -100,58 +96,51 @@ module _ (N : NetLists) (numbered : IsNumbered N) where
   raising q lt n = (
     λ h.
         let used = using_sound q h.0 h.1 in
-        let m = Contains-get_or N.theory.rules h.0 no_rule used.0 in
+        let m = rule_in N numbered h.0 used.0 in
         (h.2.0, (m.0, rule_at N h.0, m.1, m.2, (used.1, h.2.1))),
     λ h.
-        let k : ℕ = h.1.0 in
-        let e : h.1.1 ≡ rule_at N h.1.0 = sym h.1.3 ∙ get_or_default N.theory.rules h.1.0 h.1.1 no_rule h.1.2 in (
-          h.1.0,
-          using_complete q h.1.0 lt h.1.2 (subst (λ (r : Rule). Contains r.body (literal_at N q)) e h.1.4.0),
+        let at = number_of_rule N numbered h.1.1 (h.1.0, h.1.2, h.1.3) in
+        let e : h.1.1 ≡ rule_at N at.0 = sym at.2 in (
+          at.0,
+          using_complete q at.0 lt at.1 (subst (λ (r : Rule). Contains r.body (literal_at N q)) e h.1.4.0),
           (h.0, subst (λ (r : Rule). IsOrAttacks N.theory r.head (literal_at N n)) e h.1.4.1),
         ),
   )
 
   -- the head of a rule that is there has a number, which is its own
-  pub head_inside : (r : ℕ) → r < length N.theory.rules → number N (rule_at N r).head < length N.names
-  head_inside r lt = number_inside N numbered (rule_at N r).head (head_in N numbered r lt)
+  pub head_found : (r : ℕ) → HasRule N r → literal_at N (number N (rule_at N r).head) ≡ (rule_at N r).head
+  head_found r has = number_finds N numbered (rule_at N r).head (head_in N numbered r has)
 
-  pub head_found : (r : ℕ) → r < length N.theory.rules → literal_at N (number N (rule_at N r).head) ≡ (rule_at N r).head
-  head_found r lt = number_finds N numbered (rule_at N r).head (head_in N numbered r lt)
+module _ (N : NetLists) (numbered : IsNumbered N) (formed : IsWellFormed N.theory) where
+  -- the rule with a label is the one at its number
+  labelled_one : (r : ℕ) (l : List ℕ) → HasRule N r → (rule_at N r).label ≡ l → (u : Rule) → Contains N.theory.rules u → u.label ≡ l → u ≡ rule_at N r
+  labelled_one r l has e u m same =
+      let at = number_of_rule N numbered u m in
+      sym at.2 ∙ ap (rule_at N) (label_once N numbered formed.labels_distinct at.0 r at.1 has (ap (λ (t : Rule). t.label) at.2 ∙ same ∙ sym e))
 
-module _ (N : NetLists) (formed : IsWellFormed N.theory) where
-  -- the rule with a label is the one at its place
-  labelled_one : (r : ℕ) (l : List ℕ) → r < length N.theory.rules → (rule_at N r).label ≡ l
-      → (k : ℕ) (u : Rule) → k < length N.theory.rules → get_or N.theory.rules k u ≡ u → u.label ≡ l → u ≡ rule_at N r
-  labelled_one r l lt e k u within is same =
-      let there : u ≡ rule_at N k = sym is ∙ get_or_default N.theory.rules k u no_rule within in
-      let mine : get_or (labels N.theory) r [] ≡ l = get_or-map (λ (t : Rule). t.label) N.theory.rules r no_rule [] lt ∙ e in
-      let its : get_or (labels N.theory) k [] ≡ l =
-      get_or-map (λ (t : Rule). t.label) N.theory.rules k no_rule [] within ∙ ap (λ (t : Rule). t.label) (sym there) ∙ same in
-      there ∙ ap (rule_at N) (label_once N.theory l k r formed.labels_distinct within lt its mine)
-
-  -- what a rule with a label seeds is what the one at its place does
-  pub seeding_label : (r : ℕ) (l : List ℕ) → r < length N.theory.rules → (rule_at N r).label ≡ l → (n : ℕ)
+  -- what a rule with a label seeds is what the one at its number does
+  pub seeding_label : (r : ℕ) (l : List ℕ) → HasRule N r → (rule_at N r).label ≡ l → (n : ℕ)
       → IsNumberOf N (IsOrAttacks N.theory (rule_at N r).head) n ↔ IsNumberOf N (IsSeed N.theory (DropRule l)) n
-  seeding_label r l lt e n = (
-    λ h. let m = Contains-get_or N.theory.rules r no_rule lt in (h.0, (m.0, rule_at N r, m.1, m.2, (e, h.1))),
+  seeding_label r l has e n = (
+    λ h. let m = rule_in N numbered r has in (h.0, (m.0, rule_at N r, m.1, m.2, (e, h.1))),
     λ h. (
       h.0,
-      subst (λ (t : Rule). IsOrAttacks N.theory t.head (literal_at N n)) (labelled_one r l lt e h.1.0 h.1.1 h.1.2 h.1.3 h.1.4.0) h.1.4.1,
+      subst (λ (t : Rule). IsOrAttacks N.theory t.head (literal_at N n)) (labelled_one r l has e h.1.1 (h.1.0, h.1.2, h.1.3) h.1.4.0) h.1.4.1,
     ),
   )
 
   -- the heads of the two rules of a pair
-  pub seeding_pair : (upper lower : ℕ) (p : Pair) → upper < length N.theory.rules → lower < length N.theory.rules
+  pub seeding_pair : (upper lower : ℕ) (p : Pair) → HasRule N upper → HasRule N lower
       → (rule_at N upper).label ≡ p.upper → (rule_at N lower).label ≡ p.lower → (n : ℕ)
       → IsNumberOf N (IsOfRivals N.theory (rule_at N upper).head (rule_at N lower).head) n ↔ IsNumberOf N (IsSeedOfPair N.theory p) n
-  seeding_pair upper lower p lu ll eu el n = (
+  seeding_pair upper lower p hu hl eu el n = (
     λ h.
-        let m = Contains-get_or N.theory.rules upper no_rule lu in
-        let o = Contains-get_or N.theory.rules lower no_rule ll in
+        let m = rule_in N numbered upper hu in
+        let o = rule_in N numbered lower hl in
         (h.0, (m.0, rule_at N upper, m.1, m.2, (o.0, rule_at N lower, o.1, o.2, (eu, el, h.1.0, h.1.1)))),
     λ h.
-        let t : h.1.1 ≡ rule_at N upper = labelled_one upper p.upper lu eu h.1.0 h.1.1 h.1.2 h.1.3 h.1.4.4.0 in
-        let u : h.1.4.1 ≡ rule_at N lower = labelled_one lower p.lower ll el h.1.4.0 h.1.4.1 h.1.4.2 h.1.4.3 h.1.4.4.1 in (
+        let t : h.1.1 ≡ rule_at N upper = labelled_one upper p.upper hu eu h.1.1 (h.1.0, h.1.2, h.1.3) h.1.4.4.0 in
+        let u : h.1.4.1 ≡ rule_at N lower = labelled_one lower p.lower hl el h.1.4.1 (h.1.4.0, h.1.4.2, h.1.4.3) h.1.4.4.1 in (
           h.0,
           subst (λ (s : Rule). IsOfRivals N.theory (rule_at N upper).head s.head (literal_at N n)) u
               (subst (λ (s : Rule). IsOfRivals N.theory s.head h.1.4.1.head (literal_at N n)) t (h.1.4.4.2, h.1.4.4.3)),

@@ -12,8 +12,8 @@ use Rattle.dl_theory.specs.Lists.{TheoryLists}
 use Rattle.dl_theory.specs.Edits.{after_edit, IsAccepted}
 use Rattle.dl_theory.specs.Cones.{IsOrAttacks, IsSeed, RaisesTo, Cone}
 use Rattle.dl_theory.specs.Verdicts.{Reaches}
-use Rattle.dl_net.specs.Region.{Numbers}
-use Rattle.dl_net.specs.Numbers.{NetLists, IsNumbered, literal_at}
+use Rattle.dl_graph.specs.Region.{Numbers}
+use Rattle.dl_graph.specs.Numbers.{NetLists, IsNumbered, literal_at}
 use Rattle.dl_cone.specs.Walked.{IsConeOf}
 use Rattle.dl_cone.proofs.Gathering.{IsGathered, gathered_all}
 

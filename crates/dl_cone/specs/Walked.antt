@@ -4,8 +4,8 @@ use Rattle.dl_lit.specs.declared.literal.Literal.{Literal}
 use Rattle.dl_theory.specs.declared.edit.Edit.{Edit}
 use Rattle.dl_theory.specs.Lists.{TheoryLists, attackers}
 use Rattle.dl_theory.specs.Cones.{Cone}
-use Rattle.dl_net.specs.Region.{Numbers}
-use Rattle.dl_net.specs.Numbers.{NetLists, literal_at}
+use Rattle.dl_graph.specs.Region.{Numbers}
+use Rattle.dl_graph.specs.Numbers.{NetLists, literal_at}
 
 -- n is the number of a literal with P
 abbrev pub IsNumberOf : NetLists → (Literal → Type 0) → ℕ → Type 0

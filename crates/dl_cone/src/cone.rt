@@ -4,16 +4,16 @@ ghost use Rattle.std.specs.Prelude.{◌≡◌, ◌<◌, [], length};
 ghost use Rattle.dl_theory.specs.Cones.{IsSeed, RaisesTo};
 ghost use Rattle.dl_theory.specs.Edits.{IsAccepted};
 ghost use Rattle.dl_theory.specs.Lists.{IsWellFormed};
-ghost use Rattle.dl_net.specs.Numbers.{IsNumbered, literal_at};
+ghost use Rattle.dl_graph.specs.Numbers.{IsNumbered, literal_at};
 ghost use Rattle.dl_derive.specs.Back.{Gains};
 ghost use Rattle.dl_cone.specs.Walked.{IsConeOf, IsNumberOf};
 
 use crate::seeds::{put_head, put_labelled, put_literal, put_pair};
-use dl_net::{Link, Net, Region};
+use dl_graph::{Graph, Link, Region};
 use dl_theory::Edit;
 
 /// Puts the heads of the rules that use a literal, and what attacks these heads.
-fn put_raised(net: &Net, number: usize, region: &mut Region)
+fn put_raised(net: &Graph<'_>, number: usize, region: &mut Region)
     requires numbered { IsNumbered net.now }
     requires number { number < length net.now.names }
     requires bound { region.old.bound ≡ length net.now.names }
@@ -26,7 +26,7 @@ fn put_raised(net: &Net, number: usize, region: &mut Region)
 }
 
 /// Puts the literals where an edit begins to change what follows. The body of a rule that is added needs no step: its head is one of them.
-fn put_seeds(net: &Net, edit: &Edit, region: &mut Region)
+fn put_seeds(net: &Graph<'_>, edit: &Edit, region: &mut Region)
     requires formed { IsWellFormed net.now.theory }
     requires numbered { IsNumbered net.now }
     requires bound { region.old.bound ≡ length net.now.names }
@@ -44,7 +44,7 @@ fn put_seeds(net: &Net, edit: &Edit, region: &mut Region)
 }
 
 /// Puts the cone of an edit into a region, over the net before the edit. Takes no memory, and a step for each use of a literal of the cone.
-pub fn walk(net: &Net, edit: &Edit, region: &mut Region)
+pub fn walk(net: &Graph<'_>, edit: &Edit, region: &mut Region)
     requires empty { region.old.members ≡ [] }
     requires bound { region.old.bound ≡ length net.now.names }
     requires accepted { IsAccepted net.now.theory edit.now }

@@ -5,16 +5,16 @@ ghost use Rattle.dl_theory.specs.declared.edit.Edit.TheVariants.{DropRule};
 ghost use Rattle.dl_theory.specs.Cones.{IsOrAttacks, IsSeed, IsSeedOfPair};
 ghost use Rattle.dl_theory.specs.Edits.{HasBoth, HasLabel};
 ghost use Rattle.dl_theory.specs.Lists.{IsWellFormed, attackers};
-ghost use Rattle.dl_net.specs.Numbers.{IsNumbered, literal_at, rule_at};
+ghost use Rattle.dl_graph.specs.Numbers.{HasRule, IsNumbered, literal_at, rule_at};
 ghost use Rattle.dl_derive.specs.Back.{Gains};
 ghost use Rattle.dl_cone.specs.Walked.{IsNumberOf, IsOfRivals};
 
+use dl_graph::{Graph, Region};
 use dl_lit::{Literal, Name};
-use dl_net::{Net, Region};
 use dl_theory::Pair;
 
 /// Puts what attacks a literal.
-fn put_attackers(net: &Net, number: usize, region: &mut Region)
+fn put_attackers(net: &Graph<'_>, number: usize, region: &mut Region)
     requires numbered { IsNumbered net.now }
     requires number { number < length net.now.names }
     requires bound { region.old.bound ≡ length net.now.names }
@@ -28,7 +28,7 @@ fn put_attackers(net: &Net, number: usize, region: &mut Region)
 }
 
 /// Puts a literal and what attacks it.
-fn put_both(net: &Net, number: usize, region: &mut Region)
+fn put_both(net: &Graph<'_>, number: usize, region: &mut Region)
     requires numbered { IsNumbered net.now }
     requires number { number < length net.now.names }
     requires bound { region.old.bound ≡ length net.now.names }
@@ -39,7 +39,7 @@ fn put_both(net: &Net, number: usize, region: &mut Region)
 }
 
 /// Puts a literal and what attacks it, if they have numbers.
-pub(crate) fn put_literal(net: &Net, literal: &Literal, region: &mut Region)
+pub(crate) fn put_literal(net: &Graph<'_>, literal: &Literal, region: &mut Region)
     requires numbered { IsNumbered net.now }
     requires bound { region.old.bound ≡ length net.now.names }
     ensures { Gains (IsNumberOf net.now (IsOrAttacks net.now.theory literal.now)) region.old region.new }
@@ -52,9 +52,9 @@ pub(crate) fn put_literal(net: &Net, literal: &Literal, region: &mut Region)
 }
 
 /// Puts the head of a rule, and what attacks it.
-pub(crate) fn put_head(net: &Net, rule: usize, region: &mut Region)
+pub(crate) fn put_head(net: &Graph<'_>, rule: usize, region: &mut Region)
     requires numbered { IsNumbered net.now }
-    requires rule { rule < length net.now.theory.rules }
+    requires rule { HasRule net.now rule }
     requires bound { region.old.bound ≡ length net.now.names }
     ensures { Gains (IsNumberOf net.now (IsOrAttacks net.now.theory (rule_at net.now rule).head)) region.old region.new }
 {
@@ -62,21 +62,21 @@ pub(crate) fn put_head(net: &Net, rule: usize, region: &mut Region)
 }
 
 /// Puts the head of the rule with a label, and what attacks it.
-pub(crate) fn put_labelled(net: &Net, label: &Name, region: &mut Region)
+pub(crate) fn put_labelled(net: &Graph<'_>, label: &Name, region: &mut Region)
     requires formed { IsWellFormed net.now.theory }
     requires numbered { IsNumbered net.now }
     requires there { HasLabel net.now.theory label.now }
     requires bound { region.old.bound ≡ length net.now.names }
     ensures { Gains (IsNumberOf net.now (IsSeed net.now.theory (DropRule label.now))) region.old region.new }
 {
-    match net.place(label) {
+    match net.find_rule(label) {
         Some(rule) => put_head(net, rule, region),
         None => unreachable!(),
     }
 }
 
 /// Whether one literal attacks another.
-fn attacks(net: &Net, literal: usize, other: usize) -> bool
+fn attacks(net: &Graph<'_>, literal: usize, other: usize) -> bool
     requires numbered { IsNumbered net.now }
     requires literal { literal < length net.now.names }
     requires other { other < length net.now.names }
@@ -93,10 +93,10 @@ fn attacks(net: &Net, literal: usize, other: usize) -> bool
 }
 
 /// Puts the heads of two rules, where they attack each other.
-fn put_heads(net: &Net, upper: usize, lower: usize, region: &mut Region)
+fn put_heads(net: &Graph<'_>, upper: usize, lower: usize, region: &mut Region)
     requires numbered { IsNumbered net.now }
-    requires upper { upper < length net.now.theory.rules }
-    requires lower { lower < length net.now.theory.rules }
+    requires upper { HasRule net.now upper }
+    requires lower { HasRule net.now lower }
     requires bound { region.old.bound ≡ length net.now.names }
     ensures { Gains (IsNumberOf net.now (IsOfRivals net.now.theory (rule_at net.now upper).head (rule_at net.now lower).head)) region.old region.new }
 {
@@ -109,16 +109,16 @@ fn put_heads(net: &Net, upper: usize, lower: usize, region: &mut Region)
 }
 
 /// Puts the heads of the rules of a pair, where they attack each other.
-pub(crate) fn put_pair(net: &Net, pair: &Pair, region: &mut Region)
+pub(crate) fn put_pair(net: &Graph<'_>, pair: &Pair, region: &mut Region)
     requires formed { IsWellFormed net.now.theory }
     requires numbered { IsNumbered net.now }
     requires there { HasBoth net.now.theory pair.now }
     requires bound { region.old.bound ≡ length net.now.names }
     ensures { Gains (IsNumberOf net.now (IsSeedOfPair net.now.theory pair.now)) region.old region.new }
 {
-    match net.place(&pair.upper) {
+    match net.find_rule(&pair.upper) {
         None => unreachable!(),
-        Some(upper) => match net.place(&pair.lower) {
+        Some(upper) => match net.find_rule(&pair.lower) {
             None => unreachable!(),
             Some(lower) => put_heads(net, upper, lower, region),
         },

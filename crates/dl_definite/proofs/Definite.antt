@@ -1,6 +1,6 @@
 -- What the nodes of the definite family mean, and that at the end of a run exactly what follows has fired.
-use Rattle.std.proofs.Common.{◌≡◌, ℕ, zero, suc, ◌+◌, ◌*◌, ◌<◌, ◌≤◌, Bool, ◌&&◌, true, false, cond, Some, List, [], ◌∷◌, length, inl, inr, sym, ap, refl, ◌∙◌, arith, true≢false}
-use Rattle.std.specs.Prelude.{◌⊎◌, Contains, IsTrue, nat_lt, not, MatchOption}
+use Rattle.std.proofs.Common.{◌≡◌, ℕ, zero, suc, ◌+◌, ◌*◌, ◌<◌, ◌≤◌, Bool, true, false, cond, Option, None, Some, List, [], ◌∷◌, length, get_or, inl, inr, sym, ap, refl, ◌∙◌, arith, true≢false}
+use Rattle.std.specs.Prelude.{◌⊎◌, Contains, IsTrue, nat_lt, not, unwrap_or, MatchOption}
 use Rattle.std.specs.Bool.{Decides}
 use Rattle.std.proofs.lemmas.Bool.{ltb-true}
 use Rattle.std.proofs.lemmas.Map.Made.{is_member-Decides}
@@ -8,29 +8,30 @@ use Rattle.dl_lit.specs.declared.literal.Tagged.{Tagged}
 use Rattle.dl_lit.specs.declared.literal.Family.{Family}
 use Rattle.dl_lit.specs.declared.literal.Family.TheVariants.{Definite, Blocking, Propagating, Support}
 use Rattle.dl_lit.specs.Order.{literal_eq-Decides}
+use Rattle.dl_theory.specs.declared.rule.Rule.{Rule}
 use Rattle.dl_theory.specs.Lists.{IsStrictFor, is_strict}
 use Rattle.dl_theory.specs.Conditions.{IsOn, IsOff, Condition}
 use Rattle.dl_theory.specs.Derivations.{Follows}
 use Rattle.dl_theory.specs.Verdicts.{needs}
-use Rattle.dl_net.specs.Counting.{times}
-use Rattle.dl_net.specs.Numbers.{NetLists, IsNumbered, no_rule, literal_at, rule_at, number, proves_row, next, is_fact}
-use Rattle.dl_net.specs.declared.link.Link.TheVariants.{Proves}
+use Rattle.dl_graph.specs.Counting.{times}
+use Rattle.dl_graph.specs.Numbers.{NetLists, IsNumbered, HasRule, no_rule, literal_at, rule_at, number, proves_row, next, is_fact}
+use Rattle.dl_graph.proofs.Slots.{has_rule, rule_within, row_of, row_none}
+use Rattle.dl_graph.specs.declared.link.Link.TheVariants.{Proves}
 use Rattle.dl_fill.specs.Wires.{inputs_at}
 use Rattle.dl_fill.specs.Steps.{tag_at}
 use Rattle.dl_fill.specs.Gates.{Passes}
 use Rattle.dl_marks.specs.Marks.{Marking}
-use Rattle.dl_net.specs.Region.{Numbers}
+use Rattle.dl_graph.specs.Region.{Numbers}
 use Rattle.dl_fill.specs.declared.wire.Gate.{Gate}
 use Rattle.dl_fill.specs.declared.wire.Gate.TheVariants.{Never}
-use Rattle.dl_fill.specs.Before.{Before, tag_of, is_inside, before_of, IsExactOutside}
+use Rattle.dl_fill.specs.Before.{Before, tag_of, is_rule, is_inside, before_of, IsExactOutside}
 use Rattle.dl_fill.specs.Prepared.{is_touched_at}
 use Rattle.dl_fill.specs.Touched.{Touches}
 use Rattle.dl_fill.proofs.Touching.{heads_has}
 use Rattle.dl_fill.specs.Meanings.{HasTag, IsOnAt, IsOffAt}
 use Rattle.dl_fill.specs.Families.{IsSound}
-use Rattle.dl_fill.proofs.Rows.{row_inside}
 use Rattle.dl_fill.proofs.Links.{proves_listing}
-use Rattle.dl_fill.proofs.Gating.{IsGotOutside, known, open_gate, on_sound, off_sound, on_passes, off_passes}
+use Rattle.dl_fill.proofs.Gating.{IsGotOutside, known, open_gate, close_gate, at_rule, on_sound, off_sound, on_passes, off_passes}
 use Rattle.dl_fill.proofs.Tables.{table_tested}
 use Rattle.dl_fill.proofs.Ruled.{concluded_sound, concluded_passes, refuted_sound, refuted_passes}
 use Rattle.dl_fill.proofs.Sound.{Means, MeansNode, Concludes, meant_at, sound}
@@ -53,22 +54,32 @@ one_if_so : (s : Bool) (n : ℕ) → nat_lt 0 (length (cond s (n ∷ []) [])) �
 one_if_so true n = refl
 one_if_so false n = refl
 
--- a rule is strict where it leads to a literal that it proves
-pub proves_where_strict : (N : NetLists) (r : ℕ) → r < length N.theory.rules → nat_lt 0 (length (next N Proves r)) ≡ is_strict (rule_at N r).kind
-proves_where_strict N r lt =
-    ap (λ (xs : List ℕ). nat_lt 0 (length xs)) (row_inside (proves_row N) N.theory.rules r no_rule lt)
-    ∙ one_if_so (is_strict (rule_at N r).kind) (number N (rule_at N r).head)
+module _ (N : NetLists) (r : ℕ) where
+  -- where there is no rule, none is strict
+  none_strict : get_or N.rules r None ≡ None → is_strict (rule_at N r).kind ≡ false
+  none_strict none = ap (λ (o : Option Rule). is_strict (unwrap_or o no_rule).kind) none
 
--- a gate that is open below a bound, kept shut where the rule is not strict
-open_strict : (P : ℕ → Type 0) (a s : Bool) (g : Gate) (xs : List ℕ) → Passes P (cond (a && s) g Never) xs → Passes P (cond a g Never) xs
-open_strict P true true g xs h = h
-open_strict P true false g xs h = absurd h
-open_strict P false s g xs h = absurd h
+  strict_there : is_strict (rule_at N r).kind ≡ true → HasRule N r
+  strict_there e = elim (has_rule N r) [ inl there ↦ there | inr none ↦ absurd (true≢false (sym e ∙ none_strict none)) ]
 
-close_strict : (P : ℕ → Type 0) (a s : Bool) (g : Gate) (xs : List ℕ) → s ≡ true → Passes P (cond a g Never) xs → Passes P (cond (a && s) g Never) xs
-close_strict P true true g xs e h = h
-close_strict P true false g xs e h = absurd (true≢false (sym e))
-close_strict P false s g xs e h = absurd h
+  -- a rule is strict where it leads to a literal that it proves
+  pub proves_where_strict : nat_lt 0 (length (next N Proves r)) ≡ is_strict (rule_at N r).kind
+  proves_where_strict = elim (has_rule N r) [
+    | inl there ↦
+        ap (λ (xs : List ℕ). nat_lt 0 (length xs)) (row_of N (proves_row N) r there)
+        ∙ one_if_so (is_strict (rule_at N r).kind) (number N (rule_at N r).head)
+    | inr none ↦ ap (λ (xs : List ℕ). nat_lt 0 (length xs)) (row_none N (proves_row N) r none) ∙ sym (none_strict none)
+  ]
+
+  -- a gate that is open at a strict rule is so at a rule
+  open_strict : (P : ℕ → Type 0) (g : Gate) (xs : List ℕ) → Passes P (cond (is_strict (rule_at N r).kind) g Never) xs → Passes P (at_rule N r g) xs
+  open_strict P g xs h =
+      let o = open_gate P (is_strict (rule_at N r).kind) g xs h in
+      close_gate P (is_rule N r) g xs (strict_there o.0) o.1
+
+  close_strict : (P : ℕ → Type 0) (g : Gate) (xs : List ℕ) → is_strict (rule_at N r).kind ≡ true → Passes P (at_rule N r g) xs
+      → Passes P (cond (is_strict (rule_at N r).kind) g Never) xs
+  close_strict P g xs e h = close_gate P (is_strict (rule_at N r).kind) g xs e (open_gate P (is_rule N r) g xs h).1
 
 module _ (N : NetLists) (numbered : IsNumbered N) (m : Marking) (region : Numbers) where
   abbrev b : Before
@@ -107,17 +118,17 @@ module _ (N : NetLists) (numbered : IsNumbered N) (m : Marking) (region : Number
         (here (omega arith), c.0, c.1)
     concluded (suc (suc zero)) r here h =
         on_sound N numbered b Definite got outer Node 4 0 (omega arith) r (λ i m. (at 0 i (omega arith) m).1)
-        (open_strict Node (nat_lt r (length N.theory.rules)) (is_strict (rule_at N r).kind) (rule_gate N b 0 r) (inputs_at N inside 4 definite_wires 2 r) h)
+        (open_strict N r Node (rule_gate N b 0 r) (inputs_at N inside 4 definite_wires 2 r) h)
     concluded (suc (suc (suc zero))) r here h =
         off_sound N numbered b Definite got outer Node 4 1 (omega arith) r (λ i m. (at 1 i (omega arith) m).1)
-        (open_strict Node (nat_lt r (length N.theory.rules)) (is_strict (rule_at N r).kind) (rule_gate N b 1 r) (inputs_at N inside 4 definite_wires 3 r) h)
+        (open_strict N r Node (rule_gate N b 1 r) (inputs_at N inside 4 definite_wires 3 r) h)
     concluded (suc (suc (suc (suc k)))) r here h =
-        (open_gate Node (nat_lt r (length N.theory.rules) && is_strict (rule_at N r).kind) Never
+        (open_gate Node (is_strict (rule_at N r).kind) Never
         (inputs_at N inside 4 definite_wires (suc (suc (suc (suc k)))) r) h).1
 
   -- what fires, where nodes have fired that are touched and whose gates are passed
   module _ (outside : IsExactOutside N (before_of m region) Definite) (rules : List ℕ) (touches : Touches N region.members rules)
-      (places : ℕ) (names_fit : length N.names ≤ places) (rules_fit : length N.theory.rules ≤ places) (Fired : ℕ → Type 0)
+      (places : ℕ) (names_fit : length N.names ≤ places) (rules_fit : length N.rules ≤ places) (Fired : ℕ → Type 0)
       (passes : (k i : ℕ) → k < 4 → i < places → is_touched_at 2 region.members rules k i ≡ true
       → Passes Fired (definite_gate N (before_of m region) k i) (inputs_at N (is_inside region.members) 4 definite_wires k i) → Fired (i * 4 + k))
       (got : Tagged → Type 0) (follows : (y : Tagged) → got y → Follows N.theory y)
@@ -127,19 +138,19 @@ module _ (N : NetLists) (numbered : IsNumbered N) (m : Marking) (region : Number
 
     on_fires : (r : ℕ) → 0 < times r rules → IsTrue (is_strict (rule_at N r).kind) → IsOnAt N got Definite r → Fired (r * 4 + 2)
     on_fires r t strict m =
-        passes 2 r (omega arith) (omega (arith, m.0, rules_fit)) (rule_touched 2 region.members rules 2 r (omega arith) t)
-        (close_strict Fired (nat_lt r (length N.theory.rules)) (is_strict (rule_at N r).kind) (rule_gate N b 0 r)
+        passes 2 r (omega arith) (omega (arith, rule_within N r m.0, rules_fit)) (rule_touched 2 region.members rules 2 r (omega arith) t)
+        (close_strict N r Fired (rule_gate N b 0 r)
         (inputs_at N inside 4 definite_wires 2 r) strict
         (on_passes N numbered b Definite outside Fired 4 0 (omega arith) r got follows m (fired true)))
 
     off_fires : (r : ℕ) → 0 < times r rules → IsTrue (is_strict (rule_at N r).kind) → IsOffAt N got Definite r → Fired (r * 4 + 3)
     off_fires r t strict m =
-        passes 3 r (omega arith) (omega (arith, m.0, rules_fit)) (rule_touched 2 region.members rules 3 r (omega arith) t)
-        (close_strict Fired (nat_lt r (length N.theory.rules)) (is_strict (rule_at N r).kind) (rule_gate N b 1 r)
+        passes 3 r (omega arith) (omega (arith, rule_within N r m.0, rules_fit)) (rule_touched 2 region.members rules 3 r (omega arith) t)
+        (close_strict N r Fired (rule_gate N b 1 r)
         (inputs_at N inside 4 definite_wires 3 r) strict
         (off_passes N numbered b Definite outside Fired 4 1 (omega arith) r got follows m (fired false)))
 
-    strict_touched : (q : ℕ) → is_inside region.members q ≡ true → q < length N.names → (r : ℕ) → r < length N.theory.rules → IsStrictFor (literal_at N q) (rule_at N r) → 0 < times r rules
+    strict_touched : (q : ℕ) → is_inside region.members q ≡ true → q < length N.names → (r : ℕ) → HasRule N r → IsStrictFor (literal_at N q) (rule_at N r) → 0 < times r rules
     strict_touched q here lt r inside strict = touches.for_members q (member q here) r (heads_has N q r inside (ap (number N) strict.0 ∙ numbered.distinct q lt))
 
     pub saturates : (f : Family) → IsTrue (filled f) → (p : Bool) (q : ℕ) → is_inside region.members q ≡ true → q < length N.names

@@ -1,11 +1,11 @@
 -- The definite family: its wires and gates.
-use Rattle.std.specs.Prelude.{ℕ, zero, suc, Bool, true, false, not, cond, Option, Some, List, [], ◌∷◌, length, nat_lt, ◌&&◌}
+use Rattle.std.specs.Prelude.{ℕ, zero, suc, Bool, true, false, not, cond, Option, Some, List, [], ◌∷◌, length, nat_lt}
 use Rattle.dl_lit.specs.declared.literal.Family.{Family}
 use Rattle.dl_lit.specs.declared.literal.Family.TheVariants.{Definite, Blocking, Propagating, Support}
 use Rattle.dl_lit.specs.declared.literal.Tag.{Tag}
 use Rattle.dl_theory.specs.Lists.{is_strict}
-use Rattle.dl_net.specs.Numbers.{NetLists, rule_at, is_fact}
-use Rattle.dl_net.specs.declared.link.Link.TheVariants.{Uses, Proves}
+use Rattle.dl_graph.specs.Numbers.{NetLists, rule_at, is_fact}
+use Rattle.dl_graph.specs.declared.link.Link.TheVariants.{Uses, Proves}
 use Rattle.dl_fill.specs.declared.wire.Wire.{Wire}
 use Rattle.dl_fill.specs.declared.wire.Gate.{Gate}
 use Rattle.dl_fill.specs.declared.wire.Gate.TheVariants.{Never}
@@ -32,12 +32,12 @@ rule_gate N b zero r = on_gate (outside_is_on N b Definite r)
 rule_gate N b (suc zero) r = off_gate (outside_is_off N b Definite r)
 rule_gate N b (suc (suc _)) r = Never
 
--- the gate of a node, by its kind and place: a literal is concluded at once where it is a fact, and never refuted there; and a rule that
--- is not strict leads to no node, so it never fires
+-- the gate of a node, by its kind and place: a literal is concluded at once where it is a fact, and never refuted there; and
+-- what is no strict rule leads to no node, so it never fires
 abbrev pub definite_gate : NetLists → Before → ℕ → ℕ → Gate
 definite_gate N b zero q = cond (nat_lt q (length N.names)) (some_gate (is_fact N q)) Never
 definite_gate N b (suc zero) q = cond (nat_lt q (length N.names)) (each_gate (not (is_fact N q))) Never
-definite_gate N b (suc (suc k)) r = cond (nat_lt r (length N.theory.rules) && is_strict (rule_at N r).kind) (rule_gate N b k r) Never
+definite_gate N b (suc (suc k)) r = cond (is_strict (rule_at N r).kind) (rule_gate N b k r) Never
 
 -- the family alone is filled
 abbrev pub definite_fills : Family → Bool

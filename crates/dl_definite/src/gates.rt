@@ -3,7 +3,7 @@
 ghost use Rattle.std.specs.Prelude.{◌≡◌, ◌<◌, ◌≤◌, length};
 ghost use Rattle.dl_marks.specs.Marks.{places};
 ghost use Rattle.dl_theory.specs.Lists as lists;
-ghost use Rattle.dl_net.specs.Numbers.{rule_at};
+ghost use Rattle.dl_graph.specs.Numbers.{rule_at};
 ghost use Rattle.dl_fill.specs.Before.{before_of};
 ghost use Rattle.dl_definite.specs.Definite.{rule_gate, definite_gate, definite_table};
 
@@ -11,9 +11,9 @@ use dl_fill::{
     Basis, FamilyGates, Gate, Gates, Wire, gate_of_each, gate_of_off, gate_of_on, gate_of_some,
     outside_is_off, outside_is_on, wires,
 };
+use dl_graph::{Graph, Link, Region};
 use dl_lit::{Family, Tag};
 use dl_marks::Marks;
-use dl_net::{Graph, Link, Region};
 
 /// How many kinds of nodes the family has.
 pub const WIDTH: usize = 4;
@@ -64,7 +64,7 @@ impl Gates for DefiniteGates {
             } else {
                 Gate::Never
             }
-        } else if place < net.rules_len() && is_strict(net, place) {
+        } else if is_strict(net, place) {
             gate_of_rule(net, marks, region, kind - 2, place)
         } else {
             Gate::Never
@@ -72,11 +72,10 @@ impl Gates for DefiniteGates {
     }
 }
 
-/// Whether a rule is strict.
+/// Whether a number has a rule that is strict.
 // A rule that is not leads to no node of this family, so its two nodes never begin to wait: nothing asks whether they fire.
 #[inline(always)]
 fn is_strict(net: &Graph<'_>, rule: usize) -> bool
-    requires { rule < length net.now.theory.rules }
     ensures { result ≡ lists.is_strict (rule_at net.now rule).kind }
 {
     net.next_len(Link::Proves, rule) > 0

@@ -9,7 +9,7 @@ use Rattle.dl_lit.specs.Order.{literal_eq-Decides}
 use Rattle.dl_theory.specs.Derivations.{Follows}
 use Rattle.dl_theory.specs.Verdicts.{needs}
 use Rattle.dl_theory.proofs.Needs.{needs_itself}
-use Rattle.dl_net.specs.Numbers.{NetLists, no_literal, literal_at}
+use Rattle.dl_graph.specs.Numbers.{NetLists, no_literal, literal_at}
 use Rattle.dl_fill.specs.Before.{Before, tag_of, IsExact}
 
 -- a literal is found at its number

@@ -1,35 +1,16 @@
 -- The numbers of what matters for a literal have all that lies behind them.
-use Rattle.std.proofs.Common.{◌≡◌, ℕ, ◌<◌, ◌≤◌, false, None, length, get_or, inl, inr, refl, sym, subst}
+use Rattle.std.proofs.Common.{◌≡◌, ℕ, ◌<◌, length, get_or, inl, inr, refl, sym, subst}
 use Rattle.std.specs.Prelude.{All}
 use Rattle.std.proofs.lemmas.List.Elements.{Contains-get_or}
 use Rattle.dl_base.proofs.Members.{Contains-mapped, mapped_from}
 use Rattle.dl_lit.specs.declared.literal.Literal.{Literal}
-use Rattle.dl_lit.specs.declared.literal.Family.{Family}
 use Rattle.dl_theory.specs.Verdicts.{Back, Reaches}
-use Rattle.dl_marks.specs.Marks.{Marking, places}
-use Rattle.dl_net.specs.Region.{Numbers}
-use Rattle.dl_net.specs.Numbers.{NetLists, IsNumbered, literal_at, number}
-use Rattle.dl_fill.specs.Filled.{IsRight}
+use Rattle.dl_graph.specs.Region.{Numbers}
+use Rattle.dl_graph.specs.Numbers.{NetLists, IsNumbered, literal_at, number}
 use Rattle.dl_fill.proofs.Links.{number_finds, number_inside}
 use Rattle.dl_derive.specs.Back.{IsBack}
-use Rattle.dl_derive.specs.Asked.{IsAsked}
 use Rattle.dl_derive.specs.Part.{IsOf, HasAllBehind}
 use Rattle.dl_derive.proofs.Resting.{back_named}
-
--- the same numbers matter in a net and in its graph
-pub is_back_in_graph : (N M : NetLists) → M ≡ record N { pending = None; frozen = false } → (q : ℕ) (r : Numbers) → IsBack N q r → IsBack M q r
-is_back_in_graph N M same q r b =
-    let whole : IsBack (record N { pending = None; frozen = false }) q r = record { bound = b.bound; members = b.members } in
-    subst (λ (K : NetLists). IsBack K q r) (sym same) whole
-
-pub asked_in_graph : (N M : NetLists) → M ≡ record N { pending = None; frozen = false } → (m : Marking) (region : Numbers) (f : Family) (q : ℕ)
-    → IsAsked N m region f q → IsAsked M m region f q
-asked_in_graph N M same m region f q a = record {
-  number = subst (λ (K : NetLists). q < length K.names) (sym same) a.number;
-  back = is_back_in_graph N M same q region a.back;
-  room = subst (λ (K : NetLists). length K.names ≤ places m) (sym same) a.room;
-  right = λ g needed. subst (λ (K : NetLists). IsRight K m g) (sym same) (a.right g needed);
-}
 
 module _ (N : NetLists) (numbered : IsNumbered N) (q : ℕ) (lt : q < length N.names) (r : Numbers) (b : IsBack N q r) where
   pub members_inside : All (λ n. n < length N.names) r.members

@@ -14,9 +14,9 @@ use Rattle.dl_theory.specs.Derivations.{Derives, Follows}
 use Rattle.dl_theory.specs.Verdicts.{Back, Reaches, needs, Matters, DerivesAt}
 use Rattle.dl_theory.proofs.Steps.{derives_join}
 use Rattle.dl_marks.specs.Marks.{Marking, marked}
-use Rattle.dl_net.specs.Region.{Numbers, IsRegion}
-use Rattle.dl_net.specs.Counting.{times}
-use Rattle.dl_net.specs.Numbers.{NetLists, IsNumbered, number, literal_at, attackers_row, no_literal}
+use Rattle.dl_graph.specs.Region.{Numbers, IsRegion}
+use Rattle.dl_graph.specs.Counting.{times}
+use Rattle.dl_graph.specs.Numbers.{NetLists, IsNumbered, number, literal_at, attackers_row, no_literal}
 use Rattle.dl_fill.specs.declared.wire.Gate.{Gate}
 use Rattle.dl_fill.specs.declared.basis.Basis.{Basis}
 use Rattle.dl_fill.specs.declared.basis.Basis.TheVariants.{Prevailing, Failing, Sure, Unsure, Nothing}

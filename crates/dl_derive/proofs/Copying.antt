@@ -16,7 +16,7 @@ use Rattle.dl_theory.specs.Marks.{AreRight}
 use Rattle.dl_theory.proofs.Steps.{is_coherent}
 use Rattle.dl_theory.proofs.Unmentioned.{refuted}
 use Rattle.dl_marks.specs.Marks.{Marking, places, marked}
-use Rattle.dl_net.specs.Numbers.{NetLists, IsNumbered, no_literal, literal_at, number}
+use Rattle.dl_graph.specs.Numbers.{NetLists, IsNumbered, no_literal, literal_at, number}
 use Rattle.dl_fill.specs.Before.{tag_of}
 use Rattle.dl_fill.specs.Filled.{stands}
 use Rattle.dl_fill.proofs.Written.{right_decides, decides_right}

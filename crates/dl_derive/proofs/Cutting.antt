@@ -1,8 +1,7 @@
 -- The part of a theory, as it is cut out by numbers.
 use Rattle.std.proofs.Common.{true, ◌≡◌, ℕ, zero, ◌+◌, ◌<◌, ◌≤◌, List, [], ◌∷◌, ◌++◌, Some, length, map, take, get_or, inl, inr, refl, sym, subst, ap, ◌∙◌, arith}
 use Rattle.std.specs.Prelude.{◌↔◌, All, Contains, slice_get}
-use Rattle.std.proofs.lemmas.Bool.{cases_lt}
-use Rattle.std.proofs.lemmas.List.{take_all, map-append, get_or_default}
+use Rattle.std.proofs.lemmas.List.{take_all, map-append}
 use Rattle.std.proofs.lemmas.List.Elements.{All-contains, All-take, Contains-get_or}
 use Rattle.dl_base.proofs.Members.{Contains-mapped, mapped_from}
 use Rattle.dl_lit.specs.declared.literal.Literal.{Literal}
@@ -10,11 +9,11 @@ use Rattle.dl_theory.specs.declared.rule.Rule.{Rule}
 use Rattle.dl_theory.specs.declared.rule.Pair.{Pair}
 use Rattle.dl_theory.specs.Lists.{TheoryLists, Opposes, Beats}
 use Rattle.dl_theory.specs.Edits.{HasLabel, HasBoth}
-use Rattle.dl_net.specs.Region.{Numbers}
-use Rattle.dl_net.specs.Counting.{times}
-use Rattle.dl_net.specs.Numbers.{NetLists, IsNumbered, no_rule, literal_at, rule_at, heads, next, back, uppers_row}
-use Rattle.dl_net.specs.declared.link.Link.TheVariants.{Counters}
-use Rattle.dl_fill.proofs.Rows.{row_outside}
+use Rattle.dl_graph.specs.Region.{Numbers}
+use Rattle.dl_graph.specs.Counting.{times}
+use Rattle.dl_graph.specs.Numbers.{NetLists, IsNumbered, HasRule, literal_at, rule_at, heads, next, back, uppers_row}
+use Rattle.dl_graph.specs.declared.link.Link.TheVariants.{Counters}
+use Rattle.dl_graph.proofs.Slots.{rule_in, number_of_rule, row_has}
 use Rattle.dl_fill.proofs.Links.{links_turned, heads_listing, counters_listing}
 use Rattle.dl_fill.proofs.Written.{contains_times, times_contains}
 use Rattle.dl_derive.specs.Back.{Is, FromRow, Gains}
@@ -124,50 +123,46 @@ module _ (N : NetLists) (numbers : List ℕ) where
       → (p : Pair) → Contains pairs p ↔ IsBelow N numbers p
   below_all at pairs past h p = subst (λ (l : List ℕ). Contains pairs p ↔ IsBelow N l p) (take_all at numbers past) (h p)
 
--- members that stand at places of rules are rules
-pub rules_within : (N : NetLists) (places : List ℕ) (at : ℕ) (rules : List Rule) → All (λ r. r < length N.theory.rules) places
-    → HasFront (rule_at N) places at rules → All (Contains N.theory.rules) rules
-rules_within N places at rules inside h = λ k d lt.
-    let m = mapped_from (rule_at N) (take at places) (get_or rules k d) ((h (get_or rules k d)).0 (Contains-get_or rules k d lt)) in
-    subst (Contains N.theory.rules) m.2 (Contains-get_or N.theory.rules m.0 no_rule (inside_front m.0 m.1))
-  where
-    inside_front : (r : ℕ) → Contains (take at places) r → r < length N.theory.rules
-    inside_front r m = All-contains (λ n. n < length N.theory.rules) (take at places) r (All-take (λ n. n < length N.theory.rules) at places inside) m
-
 module _ (N : NetLists) (numbered : IsNumbered N) where
+  -- members that stand at numbers of rules are rules
+  pub rules_within : (numbers : List ℕ) (at : ℕ) (rules : List Rule) → All (HasRule N) numbers → HasFront (rule_at N) numbers at rules
+      → All (Contains N.theory.rules) rules
+  rules_within numbers at rules inside h = λ k d lt.
+      let m = mapped_from (rule_at N) (take at numbers) (get_or rules k d) ((h (get_or rules k d)).0 (Contains-get_or rules k d lt)) in
+      subst (Contains N.theory.rules) m.2 (rule_in N numbered m.0 (All-contains (HasRule N) (take at numbers) m.0 (All-take (HasRule N) at numbers inside) m.1))
+
   -- the rules below one
-  pub below_sound : (t u : ℕ) → t < length N.theory.rules → Contains (next N Counters t) u
-      → (u < length N.theory.rules) × Beats N.theory (rule_at N t) (rule_at N u) × Opposes N.theory (rule_at N t).head (rule_at N u)
-  below_sound t u lt m =
+  pub below_sound : (t u : ℕ) → Contains (next N Counters t) u
+      → HasRule N u × Beats N.theory (rule_at N t) (rule_at N u) × Opposes N.theory (rule_at N t).head (rule_at N u)
+  below_sound t u m =
       let turned : 0 < times t (back N Counters u) =
       subst (λ (n : ℕ). 0 < n) (links_turned N Counters t u) (contains_times u (next N Counters t) m) in
-      elim (cases_lt u (length N.theory.rules)) [
-        | inl lu ↦ let s = (counters_listing N numbered u lu).sound t turned in (lu, s.1.0, s.1.1)
-        | inr gu ↦ absurd (omega (arith, turned, ap (times t) (row_outside (uppers_row N (λ r. true)) N.theory.rules u gu)))
-      ]
+      let has : HasRule N u = (row_has N (uppers_row N (λ r. true)) u t turned).0 in
+      let s = (counters_listing N numbered u has).sound t turned in
+      (has, s.1.0, s.1.1)
 
-  pub below_complete : (t u : ℕ) → t < length N.theory.rules → u < length N.theory.rules
+  pub below_complete : (t u : ℕ) → HasRule N t → HasRule N u
       → Beats N.theory (rule_at N t) (rule_at N u) → Opposes N.theory (rule_at N t).head (rule_at N u) → Contains (next N Counters t) u
   below_complete t u lt lu beats opposes =
       times_contains u (next N Counters t)
       (subst (λ (n : ℕ). 0 < n) (sym (links_turned N Counters t u)) ((counters_listing N numbered u lu).complete t lt (beats, opposes)))
 
   module _ (numbers : List ℕ) (within : All (λ n. n < length N.names) numbers) where
-    pub are_rules : (rules old : Numbers) → old.bound ≡ length N.theory.rules → old.members ≡ []
+    pub are_rules : (rules old : Numbers) → old.members ≡ []
         → Gains (FromRow (λ q. FromRow Is (heads N q)) numbers) old rules → AreRulesFor N numbers rules
-    are_rules rules old bound none g = record {
+    are_rules rules old none g = record {
       inside = λ k d lt. (from (get_or rules.members k d) (Contains-get_or rules.members k d lt)).0;
       sound = λ k d lt. (from (get_or rules.members k d) (Contains-get_or rules.members k d lt)).1;
-      complete = λ r lt of.
+      complete = λ r has of.
           let m = mapped_from (literal_at N) numbers (rule_at N r).head of in
           let inside : m.0 < length N.names = All-contains (λ n. n < length N.names) numbers m.0 within m.1 in
-          g.complete r (m.0, m.1, (r, times_contains r (heads N m.0) ((heads_listing N numbered m.0 inside).complete r lt (sym m.2)), refl));
+          g.complete r (m.0, m.1, (r, times_contains r (heads N m.0) ((heads_listing N numbered m.0 inside).complete r has (sym m.2)), refl));
     }
       where
         only_more : rules.members ≡ g.more
         only_more = g.behind ∙ ap (λ (l : List ℕ). l ++ g.more) none
 
-        from : (r : ℕ) → Contains rules.members r → (r < length N.theory.rules) × IsOf N numbers (rule_at N r).head
+        from : (r : ℕ) → Contains rules.members r → HasRule N r × IsOf N numbers (rule_at N r).head
         from r m =
             let x = All-contains (FromRow (λ q. FromRow Is (heads N q)) numbers) g.more r g.sound (subst (λ (l : List ℕ). Contains l r) only_more m) in
             let inside : x.0 < length N.names = All-contains (λ n. n < length N.names) numbers x.0 within x.1 in
@@ -176,20 +171,15 @@ module _ (N : NetLists) (numbered : IsNumbered N) where
             (s.0, subst (IsOf N numbers) (sym s.1) (Contains-mapped (literal_at N) numbers x.0 x.1))
 
   module _ (numbers : List ℕ) (closed : HasAllBehind N.theory (IsOf N numbers)) (rules : Numbers) (are : AreRulesFor N numbers rules) where
-    -- each rule has a place
-    placed : (r : Rule) → Contains N.theory.rules r → (k : ℕ) × (k < length N.theory.rules) × (rule_at N k ≡ r)
-    placed r m = (m.0, m.1, get_or_default N.theory.rules m.0 no_rule r m.1 ∙ m.2)
-
     pub rules_are : (r : Rule) → Contains (map (rule_at N) rules.members) r ↔ (Contains N.theory.rules r × IsOf N numbers r.head)
     rules_are r = (
       λ m.
-          let k = mapped_from (rule_at N) rules.members r m in
-          let lt : k.0 < length N.theory.rules = All-contains (λ n. n < length N.theory.rules) rules.members k.0 are.inside k.1 in (
-            subst (Contains N.theory.rules) k.2 (Contains-get_or N.theory.rules k.0 no_rule lt),
+          let k = mapped_from (rule_at N) rules.members r m in (
+            subst (Contains N.theory.rules) k.2 (rule_in N numbered k.0 (All-contains (HasRule N) rules.members k.0 are.inside k.1)),
             subst (λ (u : Rule). IsOf N numbers u.head) k.2 (All-contains (λ n. IsOf N numbers (rule_at N n).head) rules.members k.0 are.sound k.1),
           ),
       λ h.
-          let p = placed r h.0 in
+          let p = number_of_rule N numbered r h.0 in
           subst (Contains (map (rule_at N) rules.members)) p.2
           (Contains-mapped (rule_at N) rules.members p.0 (are.complete p.0 p.1 (subst (λ (u : Rule). IsOf N numbers u.head) (sym p.2) h.1))),
     )
@@ -205,9 +195,8 @@ module _ (N : NetLists) (numbered : IsNumbered N) where
 
     between : (p : Pair) → IsBelow N rules.members p → IsBetween p
     between p h =
-        let lt : h.0 < length N.theory.rules = All-contains (λ n. n < length N.theory.rules) rules.members h.0 are.inside h.1 in
         let m = mapped_from (pair_at N h.0) (next N Counters h.0) p h.2 in
-        let s = below_sound h.0 m.0 lt m.1 in
+        let s = below_sound h.0 m.0 m.1 in
         let head : IsOf N numbers (rule_at N h.0).head = All-contains (λ n. IsOf N numbers (rule_at N n).head) rules.members h.0 are.sound h.1 in
         record {
           upper = h.0;
@@ -245,8 +234,8 @@ module _ (N : NetLists) (numbered : IsNumbered N) where
             λ b.
                 let i = mapped_from (rule_at N) rules.members t ((has t).0 m) in
                 let j = mapped_from (rule_at N) rules.members u ((has u).0 n) in
-                let li : i.0 < length N.theory.rules = All-contains (λ n. n < length N.theory.rules) rules.members i.0 are.inside i.1 in
-                let lj : j.0 < length N.theory.rules = All-contains (λ n. n < length N.theory.rules) rules.members j.0 are.inside j.1 in
+                let li : HasRule N i.0 = All-contains (HasRule N) rules.members i.0 are.inside i.1 in
+                let lj : HasRule N j.0 = All-contains (HasRule N) rules.members j.0 are.inside j.1 in
                 let beats : Beats N.theory (rule_at N i.0) (rule_at N j.0) =
                 subst (λ (v : Rule). Beats N.theory v (rule_at N j.0)) (sym i.2) (subst (λ (v : Rule). Beats N.theory t v) (sym j.2) b) in
                 let against : Opposes N.theory (rule_at N i.0).head (rule_at N j.0) =

@@ -5,7 +5,7 @@ use Rattle.std.proofs.lemmas.Bool.{cases_eq, cases_lt}
 use Rattle.std.proofs.lemmas.List.{append-nil, get_or_default}
 use Rattle.std.proofs.lemmas.List.Elements.{All-nil, All-cons, All-append, All-weaker, Contains-push, Contains-append_left}
 use Rattle.std.proofs.lemmas.Option.{none-some, slice_get_within, slice_get-get_or, get_or_from_slice_get}
-use Rattle.dl_net.specs.Region.{Numbers}
+use Rattle.dl_graph.specs.Region.{Numbers}
 use Rattle.dl_fill.proofs.Written.{member_or_not}
 use Rattle.dl_derive.specs.Back.{Is, FromRow, Gains}
 

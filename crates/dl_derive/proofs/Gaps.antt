@@ -16,8 +16,8 @@ use Rattle.dl_lit.specs.Order.{tagged_cmp}
 use Rattle.dl_theory.specs.Derivations.{Follows}
 use Rattle.dl_theory.specs.Listings.{IsListOf}
 use Rattle.dl_theory.specs.Verdicts.{Back, needs, Matters, IsExactGap}
-use Rattle.dl_net.specs.Region.{Numbers}
-use Rattle.dl_net.specs.Numbers.{NetLists, IsNumbered, number, literal_at}
+use Rattle.dl_graph.specs.Region.{Numbers}
+use Rattle.dl_graph.specs.Numbers.{NetLists, IsNumbered, number, literal_at}
 use Rattle.dl_fill.specs.Before.{Before, tag_of, IsExact}
 use Rattle.dl_fill.proofs.Links.{number_finds, number_inside}
 use Rattle.dl_fill.proofs.Gating.{known}

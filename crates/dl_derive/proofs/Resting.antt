@@ -1,5 +1,5 @@
 -- What a literal rests on, by numbers, and what is reached along that.
-use Rattle.std.proofs.Common.{◌≡◌, ℕ, ◌+◌, ◌<◌, ◌≤◌, List, [], ◌∷◌, Some, length, length-append, replicate, suc, ◌==◌, Bool, true, false, cond, get_or, inl, inr, sym, subst, ap, refl, ◌∙◌, arith}
+use Rattle.std.proofs.Common.{◌≡◌, ℕ, ◌+◌, ◌<◌, ◌≤◌, List, [], ◌∷◌, Option, None, Some, length, length-append, replicate, suc, ◌==◌, Bool, true, false, cond, get_or, inl, inr, sym, subst, ap, refl, ◌∙◌, arith}
 use Rattle.std.specs.Prelude.{All, Contains, slice_get}
 use Rattle.std.specs.List.{range_with_len}
 use Rattle.std.proofs.lemmas.Bool.{cases_lt}
@@ -13,22 +13,26 @@ use Rattle.dl_lit.specs.declared.literal.Literal.{Literal}
 use Rattle.dl_theory.specs.declared.rule.Rule.{Rule}
 use Rattle.dl_theory.specs.Lists.{attackers}
 use Rattle.dl_theory.specs.Verdicts.{RestsOn, Back, Reaches}
-use Rattle.dl_net.specs.Region.{Numbers, IsRegion}
-use Rattle.dl_net.specs.Counting.{times}
-use Rattle.dl_net.specs.Rows.{places_from}
-use Rattle.dl_net.specs.Numbers.{NetLists, IsNumbered, heads, head_row, back, number, literal_at, rule_at, no_literal, no_rule}
-use Rattle.dl_net.specs.declared.link.Link.TheVariants.{Uses}
+use Rattle.dl_graph.specs.Region.{Numbers, IsRegion}
+use Rattle.dl_graph.specs.Counting.{times}
+use Rattle.dl_graph.specs.Rows.{places_from}
+use Rattle.dl_graph.specs.Numbers.{NetLists, IsNumbered, HasRule, of_rule, heads, head_row, back, number, literal_at, rule_at, no_literal}
+use Rattle.dl_graph.specs.declared.link.Link.TheVariants.{Uses}
+use Rattle.dl_graph.proofs.Slots.{rule_in, number_of_rule}
 use Rattle.dl_fill.proofs.Links.{number_finds, number_inside, attacker_named, heads_listing, body_in, body_sound, body_complete}
 use Rattle.dl_fill.proofs.Written.{contains_times, times_contains}
 use Rattle.dl_derive.specs.Back.{Gains, RestsAt, IsBack}
 
--- there are no more rules with a head than rules
-heads_few : (N : NetLists) (q k : ℕ) (rs : List Rule) → length (places_from (head_row N) k rs q) ≤ length rs
+-- there are no more rules with a head than numbers of rules
+heads_few : (N : NetLists) (q k : ℕ) (rs : List (Option Rule)) → length (places_from (of_rule (head_row N)) k rs q) ≤ length rs
 heads_few N q k [] = omega arith
-heads_few N q k (r ∷ rs) =
+heads_few N q k (None ∷ rs) =
+    let rest : length (places_from (of_rule (head_row N)) k (None ∷ rs) q) ≤ length rs = heads_few N q (suc k) rs in
+    omega (arith, rest)
+heads_few N q k (Some r ∷ rs) =
     omega (
       arith,
-      length-append (replicate (times q (number N r.head ∷ [])) k) (places_from (head_row N) (suc k) rs q),
+      length-append (replicate (times q (number N r.head ∷ [])) k) (places_from (of_rule (head_row N)) (suc k) rs q),
       length-replicate (times q (number N r.head ∷ [])) k,
       one_most (q == number N r.head),
       heads_few N q (suc k) rs,
@@ -38,8 +42,8 @@ heads_few N q k (r ∷ rs) =
     one_most true = omega arith
     one_most false = omega arith
 
-pub few_heads : (N : NetLists) (q : ℕ) → length (heads N q) ≤ length N.theory.rules
-few_heads N q = heads_few N q 0 N.theory.rules
+pub few_heads : (N : NetLists) (q : ℕ) → length (heads N q) ≤ length N.rules
+few_heads N q = heads_few N q 0 N.rules
 
 -- there are no more members than numbers below the bound
 pub few_members : (r : Numbers) → IsRegion r → length r.members ≤ r.bound
@@ -59,11 +63,11 @@ pub record IsGathered (N : NetLists) (q at : ℕ) (r : Numbers) : Type 0 where
   pub closed : (k : ℕ) → k < at → k < length r.members → (n : ℕ) → RestsAt N (get_or r.members k 0) n → Contains r.members n
 
 module _ (N : NetLists) (numbered : IsNumbered N) where
-  pub rule_inside : (q r : ℕ) → q < length N.names → Contains (heads N q) r → r < length N.theory.rules
+  pub rule_inside : (q r : ℕ) → q < length N.names → Contains (heads N q) r → HasRule N r
   rule_inside q r lt m = ((heads_listing N numbered q lt).sound r (contains_times r (heads N q) m)).0
 
-  pub body_inside : (r n : ℕ) → r < length N.theory.rules → Contains (back N Uses r) n → n < length N.names
-  body_inside r n lt m = (body_sound N numbered r lt n (contains_times n (back N Uses r) m)).1
+  pub body_inside : (r n : ℕ) → HasRule N r → Contains (back N Uses r) n → n < length N.names
+  body_inside r n has m = (body_sound N numbered r has n (contains_times n (back N Uses r) m)).1
 
   -- a number on which q rests stands for a literal on which that of q rests
   pub rests_sound : (q n : ℕ) → q < length N.names → RestsAt N q n → (n < length N.names) × RestsOn N.theory (literal_at N q) (literal_at N n)
@@ -78,7 +82,7 @@ module _ (N : NetLists) (numbered : IsNumbered N) where
       let r = (heads_listing N numbered q lt).sound h.0 (contains_times h.0 (heads N q) h.1) in
       let there : Contains (back N Uses h.0) n = subst (Contains (back N Uses h.0)) (sym h.2.2) h.2.1 in
       let b = body_sound N numbered h.0 r.0 n (contains_times n (back N Uses h.0) there) in
-      let m = Contains-get_or N.theory.rules h.0 no_rule r.0 in
+      let m = rule_in N numbered h.0 r.0 in
       (b.1, inr (m.0, rule_at N h.0, m.1, m.2, (r.1, b.0)))
 
   -- what a literal rests on has a number on which its own rests
@@ -88,17 +92,16 @@ module _ (N : NetLists) (numbered : IsNumbered N) where
     inl (number N c, Contains-mapped (number N) (attackers N.theory (literal_at N q)) c m, refl),
   )
   rests_complete q c lt (inr h) =
-      let k : ℕ = h.0 in
-      let e : h.1 ≡ rule_at N h.0 = sym h.3 ∙ get_or_default N.theory.rules h.0 h.1 no_rule h.2 in
-      let head : (rule_at N h.0).head ≡ literal_at N q = subst (λ (r : Rule). r.head ≡ literal_at N q) e h.4.0 in
-      let inside : Contains (rule_at N h.0).body c = subst (λ (r : Rule). Contains r.body c) e h.4.1 in
-      let here : 0 < times (number N c) (back N Uses h.0) =
-      subst (λ (x : Literal). 0 < times (number N x) (back N Uses h.0)) inside.2 (body_complete N numbered h.0 h.2 inside.0 c inside.1) in (
-        body_in N numbered h.0 h.2 c inside,
+      let at = number_of_rule N numbered h.1 (h.0, h.2, h.3) in
+      let head : (rule_at N at.0).head ≡ literal_at N q = subst (λ (r : Rule). r.head ≡ literal_at N q) (sym at.2) h.4.0 in
+      let inside : Contains (rule_at N at.0).body c = subst (λ (r : Rule). Contains r.body c) (sym at.2) h.4.1 in
+      let here : 0 < times (number N c) (back N Uses at.0) =
+      subst (λ (x : Literal). 0 < times (number N x) (back N Uses at.0)) inside.2 (body_complete N numbered at.0 at.1 inside.0 c inside.1) in (
+        body_in N numbered at.0 at.1 c inside,
         inr (
-          h.0,
-          times_contains h.0 (heads N q) ((heads_listing N numbered q lt).complete h.0 h.2 head),
-          (number N c, times_contains (number N c) (back N Uses h.0) here, refl),
+          at.0,
+          times_contains at.0 (heads N q) ((heads_listing N numbered q lt).complete at.0 at.1 head),
+          (number N c, times_contains (number N c) (back N Uses at.0) here, refl),
         ),
       )
 

@@ -6,9 +6,9 @@ use Rattle.dl_lit.specs.Literal.{tagged}
 use Rattle.dl_theory.specs.Derivations.{Follows}
 use Rattle.dl_theory.specs.Verdicts.{needs, Reaches}
 use Rattle.dl_marks.specs.Marks.{Marking}
-use Rattle.dl_net.specs.Region.{Numbers}
-use Rattle.dl_net.specs.Counting.{times}
-use Rattle.dl_net.specs.Numbers.{NetLists, IsNumbered, literal_at}
+use Rattle.dl_graph.specs.Region.{Numbers}
+use Rattle.dl_graph.specs.Counting.{times}
+use Rattle.dl_graph.specs.Numbers.{NetLists, IsNumbered, literal_at}
 use Rattle.dl_fill.specs.declared.wire.Gate.{Gate}
 use Rattle.dl_fill.specs.Before.{Before, before_of, is_inside, IsExact}
 use Rattle.dl_fill.specs.Counters.{CounterLists}
@@ -55,8 +55,8 @@ module _ (t : FamilyTable) (gate : NetLists → Before → ℕ → ℕ → Gate)
     pub room_names : length N.names ≤ len / t.width
     room_names = subst (λ (v : ℕ). length N.names ≤ v) (sym places) run.names
 
-    pub room_rules : length N.theory.rules ≤ len / t.width
-    room_rules = subst (λ (v : ℕ). length N.theory.rules ≤ v) (sym places) run.rules
+    pub room_rules : length N.rules ≤ len / t.width
+    room_rules = subst (λ (v : ℕ). length N.rules ≤ v) (sym places) run.rules
 
   -- the nodes up to one of the queue
   module _ (node : ℕ) (nodes : List ℕ) (front : IsFrontTo w.queue node nodes) where

@@ -3,8 +3,8 @@ use Rattle.std.specs.Prelude.{◌<◌, ◌≤◌, ℕ, length, Contains}
 use Rattle.dl_lit.specs.declared.literal.Family.{Family}
 use Rattle.dl_theory.specs.Verdicts.{needs}
 use Rattle.dl_marks.specs.Marks.{Marking, places}
-use Rattle.dl_net.specs.Numbers.{NetLists}
-use Rattle.dl_net.specs.Region.{Numbers}
+use Rattle.dl_graph.specs.Numbers.{NetLists}
+use Rattle.dl_graph.specs.Region.{Numbers}
 use Rattle.dl_fill.specs.Filled.{IsRight}
 use Rattle.dl_derive.specs.Back.{IsBack}
 

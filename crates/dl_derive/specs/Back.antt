@@ -1,9 +1,9 @@
 -- The numbers of the literals that matter for one.
 use Rattle.std.specs.Prelude.{◌≡◌, ◌⊎◌, ◌↔◌, ℕ, ◌<◌, List, ◌++◌, length, All, Contains}
 use Rattle.dl_theory.specs.Verdicts.{Back}
-use Rattle.dl_net.specs.Region.{Numbers}
-use Rattle.dl_net.specs.Numbers.{NetLists, attackers_row, heads, back, literal_at}
-use Rattle.dl_net.specs.declared.link.Link.TheVariants.{Uses}
+use Rattle.dl_graph.specs.Region.{Numbers}
+use Rattle.dl_graph.specs.Numbers.{NetLists, attackers_row, heads, back, literal_at}
+use Rattle.dl_graph.specs.declared.link.Link.TheVariants.{Uses}
 
 abbrev pub Is : ℕ → ℕ → Type 0
 Is x n = n ≡ x

@@ -6,7 +6,7 @@ use Rattle.dl_lit.specs.declared.literal.Tag.{Tag}
 use Rattle.dl_lit.specs.declared.literal.Family.{Family}
 use Rattle.dl_lit.specs.Literal.{tagged}
 use Rattle.dl_theory.specs.Verdicts.{needs}
-use Rattle.dl_net.specs.Numbers.{NetLists, literal_at}
+use Rattle.dl_graph.specs.Numbers.{NetLists, literal_at}
 use Rattle.dl_fill.specs.Before.{tag_of}
 
 module _ (N : NetLists) (marked : Tag → ℕ → Bool) where

@@ -1,5 +1,5 @@
 -- The part of a theory that matters for some literals.
-use Rattle.std.specs.Prelude.{◌≡◌, ◌↔◌, ◌⊎◌, ℕ, ◌<◌, List, length, map, All, Contains}
+use Rattle.std.specs.Prelude.{◌≡◌, ◌↔◌, ◌⊎◌, ℕ, List, map, All, Contains}
 use Rattle.std.specs.Bool.{Decides}
 use Rattle.dl_lit.specs.declared.literal.Literal.{Literal}
 use Rattle.dl_lit.specs.declared.literal.Tag.{Tag}
@@ -9,9 +9,9 @@ use Rattle.dl_theory.specs.declared.rule.Pair.{Pair}
 use Rattle.dl_theory.specs.Lists.{TheoryLists, Opposes, Beats, attackers}
 use Rattle.dl_theory.specs.Derivations.{Follows}
 use Rattle.dl_marks.specs.Marks.{Marking, places, marked, is_owned}
-use Rattle.dl_net.specs.Region.{Numbers}
-use Rattle.dl_net.specs.Numbers.{NetLists, literal_at, rule_at, next}
-use Rattle.dl_net.specs.declared.link.Link.TheVariants.{Counters}
+use Rattle.dl_graph.specs.Region.{Numbers}
+use Rattle.dl_graph.specs.Numbers.{NetLists, HasRule, literal_at, rule_at, next}
+use Rattle.dl_graph.specs.declared.link.Link.TheVariants.{Counters}
 
 -- literals with what attacks them and the bodies of the rules for them
 pub record HasAllBehind (T : TheoryLists) (S : Literal → Type 0) : Type 0 where
@@ -40,16 +40,16 @@ Gathers {A} xs old new = (y : A) → Contains new y ↔ (Contains old y ⊎ Cont
 abbrev pub IsOf : NetLists → List ℕ → Literal → Type 0
 IsOf N numbers q = Contains (map (literal_at N) numbers) q
 
--- the places of the rules for literals with the numbers
+-- the numbers of the rules for literals with the numbers
 pub record AreRulesFor (N : NetLists) (numbers : List ℕ) (rules : Numbers) : Type 0 where
-  pub inside : All (λ r. r < length N.theory.rules) rules.members
+  pub inside : All (HasRule N) rules.members
   pub sound : All (λ r. IsOf N numbers (rule_at N r).head) rules.members
-  pub complete : (r : ℕ) → r < length N.theory.rules → IsOf N numbers (rule_at N r).head → Contains rules.members r
+  pub complete : (r : ℕ) → HasRule N r → IsOf N numbers (rule_at N r).head → Contains rules.members r
 
 abbrev pub pair_at : NetLists → ℕ → ℕ → Pair
 pair_at N upper lower = record { upper = (rule_at N upper).label; lower = (rule_at N lower).label }
 
--- the pair of a rule at one of the places and one for what it attacks to which it is superior
+-- the pair of a rule with one of the numbers and one for what it attacks to which it is superior
 abbrev pub IsBelow : NetLists → List ℕ → Pair → Type 0
 IsBelow N rules p = (r : ℕ) × Contains rules r × Contains (map (pair_at N r) (next N Counters r)) p
 

@@ -5,9 +5,9 @@ use Rattle.dl_lit.specs.declared.literal.Family.TheVariants.{Definite}
 use Rattle.dl_lit.specs.Literal.{tagged}
 use Rattle.dl_theory.specs.Derivations.{Follows}
 use Rattle.dl_marks.specs.Marks.{Marking, marked}
-use Rattle.dl_net.specs.Counting.{times}
-use Rattle.dl_net.specs.Region.{Numbers}
-use Rattle.dl_net.specs.Numbers.{NetLists, attackers_row, literal_at}
+use Rattle.dl_graph.specs.Counting.{times}
+use Rattle.dl_graph.specs.Region.{Numbers}
+use Rattle.dl_graph.specs.Numbers.{NetLists, attackers_row, literal_at}
 use Rattle.dl_fill.specs.declared.basis.Basis.{Basis}
 use Rattle.dl_fill.specs.declared.basis.Basis.TheVariants.{Prevailing, Failing, Sure, Unsure, Nothing}
 use Rattle.dl_fill.specs.Before.{before_of, is_inside, tag_of, attack_holds}

@@ -9,8 +9,8 @@ ghost use Rattle.dl_theory.specs.Edits.{HasBoth};
 ghost use Rattle.dl_derive.specs.Part.{Adds};
 
 use dl_base::Memory;
+use dl_graph::Graph;
 use dl_lit::Literal;
-use dl_net::Net;
 use dl_theory::{Edit, EditStop, Pair, PairsStop, Rule, Theory};
 
 /// Nothing stops an edit that is not refused but want of memory.
@@ -34,7 +34,7 @@ fn only_memory_for_pairs(stop: PairsStop) -> Memory
 }
 
 /// Adds a fact of the net, unless it is there.
-pub(crate) fn add_fact(net: &Net, theory: &mut Theory, fact: Literal) -> Result<(), Memory>
+pub(crate) fn add_fact(net: &Graph<'_>, theory: &mut Theory, fact: Literal) -> Result<(), Memory>
     requires within { All (Contains net.now.theory.facts) theory.old.facts }
     requires there { Contains net.now.theory.facts fact }
     ensures facts { OnOk result (Adds fact theory.old.facts theory.new.facts) }
@@ -52,7 +52,7 @@ pub(crate) fn add_fact(net: &Net, theory: &mut Theory, fact: Literal) -> Result<
 }
 
 /// Adds a rule of the net, unless it is there.
-pub(crate) fn add_rule(net: &Net, theory: &mut Theory, rule: Rule) -> Result<(), Memory>
+pub(crate) fn add_rule(net: &Graph<'_>, theory: &mut Theory, rule: Rule) -> Result<(), Memory>
     requires within { All (Contains net.now.theory.rules) theory.old.rules }
     requires there { Contains net.now.theory.rules rule }
     ensures rules { OnOk result (Adds rule theory.old.rules theory.new.rules) }
@@ -71,7 +71,7 @@ pub(crate) fn add_rule(net: &Net, theory: &mut Theory, rule: Rule) -> Result<(),
 }
 
 /// Adds pairs of the net to a theory without pairs.
-pub(crate) fn add_pairs(net: &Net, theory: &mut Theory, pairs: &[Pair]) -> Result<(), Memory>
+pub(crate) fn add_pairs(net: &Graph<'_>, theory: &mut Theory, pairs: &[Pair]) -> Result<(), Memory>
     requires distinct { IsDistinct pairs.now }
     requires within { All (Contains net.now.theory.pairs) pairs.now }
     requires labelled { All (HasBoth theory.old) pairs.now }

@@ -4,7 +4,7 @@ ghost use Rattle.std.specs.Prelude.{◌≡◌, ◌<◌, length, All, IfOk};
 ghost use Rattle.dl_theory.specs.Verdicts.{Fits};
 ghost use Rattle.dl_theory.specs.Marks.{AreRight};
 ghost use Rattle.dl_marks.specs.Marks.{places};
-ghost use Rattle.dl_net.specs.Numbers.{literal_at};
+ghost use Rattle.dl_graph.specs.Numbers.{literal_at};
 ghost use Rattle.dl_fill.specs.Filled.{stands};
 ghost use Rattle.dl_derive.specs.Part.{HasAllBehind, IsOf, IsPart};
 
@@ -15,6 +15,7 @@ use crate::part::part;
 use crate::unnumbered::unnumbered_answer;
 use crate::whole::certify_whole;
 use dl_base::Memory;
+use dl_graph::Graph;
 use dl_lit::{Family, Literal};
 use dl_marks::Marks;
 use dl_net::Net;
@@ -24,13 +25,13 @@ use std::alloc::Global;
 /// A literal that is copied with its rules costs about as much as so many that are counted in place.
 const DEARER: usize = 4;
 
-/// The answer on a literal of the part that matters for some numbers, from a net of that part.
+/// The answer on a literal of the part that matters for some numbers, from a graph of that part.
 fn certify_part(
     alloc: Global,
-    net: &Net,
+    net: &Graph<'_>,
     marks: &Marks,
     found: &Found,
-    small: &Net,
+    small: &Graph<'_>,
     family: Family,
     literal: &Literal,
 ) -> Result<Answer, Memory>
@@ -47,19 +48,21 @@ fn certify_part(
 }
 
 /// A net of the part of the theory that matters for the numbers. `Memory` where there is none for it.
-fn part_net(alloc: Global, net: &Net, found: &Found) -> Result<Net, Memory>
+fn part_net(alloc: Global, net: &Graph<'_>, found: &Found) -> Result<Net, Memory>
     requires found { All (λ n. n < length net.now.names) found.now.members }
     requires closed { HasAllBehind net.now.theory (IsOf net.now found.now.members) }
     ensures { IfOk result (λ small. IsPart (IsOf net.now found.now.members) net.now.theory small.theory) }
 {
     let theory = part(alloc, net, found)?;
-    Net::of(alloc, theory)
+    let small = Net::of(alloc, &theory);
+    drop(theory);
+    small
 }
 
 /// The answer on a literal with one of the numbers, which have all that lies behind them.
 fn certify_found(
     alloc: Global,
-    net: &Net,
+    net: &Graph<'_>,
     marks: &Marks,
     found: &Found,
     family: Family,
@@ -72,7 +75,7 @@ fn certify_found(
     ensures { IfOk result (Fits net.now.theory family literal.now) }
 {
     let small = part_net(alloc, net, found)?;
-    let answer = certify_part(alloc, net, marks, found, &small, family, literal);
+    let answer = certify_part(alloc, net, marks, found, &small.graph(), family, literal);
     drop(small);
     answer
 }
@@ -80,7 +83,7 @@ fn certify_found(
 /// The answer on a literal that has a number. Where a good part of the net matters for it, the net itself serves.
 fn certify_number(
     alloc: Global,
-    net: &Net,
+    net: &Graph<'_>,
     marks: &Marks,
     family: Family,
     number: usize,
@@ -104,7 +107,7 @@ fn certify_number(
 /// The answer on a literal in a family, with its certificate, where marks are right. `Memory` where there is none for it.
 pub fn certify(
     alloc: Global,
-    net: &Net,
+    net: &Graph<'_>,
     marks: &Marks,
     family: Family,
     literal: &Literal,

@@ -1,18 +1,18 @@
 //! The literals that matter for one, by number.
 
 ghost use Rattle.std.specs.Prelude.{◌≡◌, ℕ, ◌<◌, length, IfOk, OnOk};
-ghost use Rattle.dl_net.specs.declared.link.Link.TheVariants as link_kind;
-ghost use Rattle.dl_net.specs.Numbers as numbers;
-ghost use Rattle.dl_net.specs.Numbers.{attackers_row, heads, literal_at};
+ghost use Rattle.dl_graph.specs.declared.link.Link.TheVariants as link_kind;
+ghost use Rattle.dl_graph.specs.Numbers as numbers;
+ghost use Rattle.dl_graph.specs.Numbers.{HasRule, attackers_row, heads, literal_at};
 ghost use Rattle.dl_derive.specs.Back.{Is, FromRow, Gains, RestsAt, IsBack};
 
 use crate::found::Found;
 use dl_base::Memory;
-use dl_net::{Link, Net, Region};
+use dl_graph::{Graph, Link, Region};
 use std::alloc::Global;
 
 /// Adds what attacks a literal.
-fn put_attackers(net: &Net, number: usize, found: &mut Found) -> Result<(), Memory>
+fn put_attackers(net: &Graph<'_>, number: usize, found: &mut Found) -> Result<(), Memory>
     requires number { number < length net.now.names }
     requires bound { found.old.bound ≡ length net.now.names }
     ensures { OnOk result (Gains (FromRow Is (attackers_row net.now (literal_at net.now number))) found.old found.new) }
@@ -27,8 +27,8 @@ fn put_attackers(net: &Net, number: usize, found: &mut Found) -> Result<(), Memo
 }
 
 /// Adds the body of a rule.
-fn put_body(net: &Net, rule: usize, found: &mut Found) -> Result<(), Memory>
-    requires rule { rule < length net.now.theory.rules }
+fn put_body(net: &Graph<'_>, rule: usize, found: &mut Found) -> Result<(), Memory>
+    requires rule { HasRule net.now rule }
     requires bound { found.old.bound ≡ length net.now.names }
     ensures { OnOk result (Gains (FromRow Is (numbers.back net.now link_kind.Uses rule)) found.old found.new) }
 {
@@ -43,13 +43,13 @@ fn put_body(net: &Net, rule: usize, found: &mut Found) -> Result<(), Memory>
 }
 
 /// Adds the bodies of the rules with that head.
-fn put_rules(net: &Net, number: usize, found: &mut Found) -> Result<(), Memory>
+fn put_rules(net: &Graph<'_>, number: usize, found: &mut Found) -> Result<(), Memory>
     requires number { number < length net.now.names }
     requires bound { found.old.bound ≡ length net.now.names }
     ensures { OnOk result (Gains (FromRow (λ r. FromRow Is (numbers.back net.now link_kind.Uses r)) (heads net.now number)) found.old found.new) }
 {
     let _names = net.names();
-    for at in 0..net.rules_len() {
+    for at in 0..net.rule_numbers() {
         match net.heads(number, at) {
             Some(rule) => put_body(net, rule, found)?,
             None => return Ok(()),
@@ -59,7 +59,7 @@ fn put_rules(net: &Net, number: usize, found: &mut Found) -> Result<(), Memory>
 }
 
 /// Adds what a literal rests on.
-fn put_next(net: &Net, number: usize, found: &mut Found) -> Result<(), Memory>
+fn put_next(net: &Graph<'_>, number: usize, found: &mut Found) -> Result<(), Memory>
     requires number { number < length net.now.names }
     requires bound { found.old.bound ≡ length net.now.names }
     ensures { OnOk result (Gains (RestsAt net.now number) found.old found.new) }
@@ -70,7 +70,7 @@ fn put_next(net: &Net, number: usize, found: &mut Found) -> Result<(), Memory>
 }
 
 /// The numbers of the literals that matter for one. `Memory` where there is none for them.
-pub(crate) fn back(alloc: Global, net: &Net, number: usize) -> Result<Found, Memory>
+pub(crate) fn back(alloc: Global, net: &Graph<'_>, number: usize) -> Result<Found, Memory>
     requires { number < length net.now.names }
     ensures { IfOk result (IsBack net.now number) }
 {
@@ -101,7 +101,7 @@ fn region_of(alloc: Global, found: &Found) -> Result<Region, Memory>
 }
 
 /// The region of the literals that matter for one. `Memory` where there is none for it.
-pub(crate) fn region_behind(alloc: Global, net: &Net, number: usize) -> Result<Region, Memory>
+pub(crate) fn region_behind(alloc: Global, net: &Graph<'_>, number: usize) -> Result<Region, Memory>
     requires { number < length net.now.names }
     ensures { IfOk result (IsBack net.now number) }
 {

@@ -3,13 +3,13 @@
 ghost use Rattle.std.specs.Prelude.{◌≡◌, ◌<◌, ◌∷◌, [], ◌++◌, ◌↔◌, length, map, All, Contains, IfOk, IsTrue, OnOk};
 ghost use Rattle.dl_base.specs.Paths.{IsDistinct};
 ghost use Rattle.dl_theory.specs.declared.rule.Pair.{Pair};
-ghost use Rattle.dl_net.specs.declared.link.Link.TheVariants.{Counters};
-ghost use Rattle.dl_net.specs.Numbers.{next};
+ghost use Rattle.dl_graph.specs.declared.link.Link.TheVariants.{Counters};
+ghost use Rattle.dl_graph.specs.Numbers.{HasRule, next};
 ghost use Rattle.dl_derive.specs.Part.{Adds, Gathers, IsBelow, pair_at};
 
 use crate::found::Found;
 use dl_base::Memory;
-use dl_net::{Link, Net};
+use dl_graph::{Graph, Link};
 use dl_theory::Pair;
 use indexmap::IndexSet;
 use std::alloc::Global;
@@ -42,27 +42,19 @@ fn put_pair(pairs: &mut IndexSet<Pair>, pair: Pair) -> Result<(), Memory>
 }
 
 /// The pair of the labels of two rules.
-fn pair_of(net: &Net, upper: usize, lower: usize) -> Result<Pair, Memory>
-    requires upper { upper < length net.now.theory.rules }
-    requires lower { lower < length net.now.theory.rules }
+fn pair_of(net: &Graph<'_>, upper: usize, lower: usize) -> Result<Pair, Memory>
+    requires upper { HasRule net.now upper }
+    requires lower { HasRule net.now lower }
     ensures { IfOk result (λ pair. pair ≡ pair_at net.now upper lower) }
 {
-    match net.rule(upper) {
-        None => unreachable!(),
-        Some(above) => match net.rule(lower) {
-            None => unreachable!(),
-            Some(below) => {
-                let upper = above.label.copy()?;
-                let lower = below.label.copy()?;
-                Ok(Pair { upper, lower })
-            }
-        },
-    }
+    let upper = net.label(upper).copy()?;
+    let lower = net.label(lower).copy()?;
+    Ok(Pair { upper, lower })
 }
 
 /// Adds the pairs of a rule and those for what it attacks to which it is superior.
-fn put_below(net: &Net, rule: usize, pairs: &mut IndexSet<Pair>) -> Result<(), Memory>
-    requires rule { rule < length net.now.theory.rules }
+fn put_below(net: &Graph<'_>, rule: usize, pairs: &mut IndexSet<Pair>) -> Result<(), Memory>
+    requires rule { HasRule net.now rule }
     requires distinct { IsDistinct pairs.old.keys }
     ensures distinct { OnOk result (IsDistinct pairs.new.keys) }
     ensures pairs { OnOk result (Gathers (map (pair_at net.now rule) (next net.now Counters rule)) pairs.old.keys pairs.new.keys) }
@@ -76,9 +68,13 @@ fn put_below(net: &Net, rule: usize, pairs: &mut IndexSet<Pair>) -> Result<(), M
     Ok(())
 }
 
-/// The pairs of rules at the places and those for what they attack to which they are superior, each once.
-pub(crate) fn pairs_below(alloc: Global, net: &Net, rules: &Found) -> Result<IndexSet<Pair>, Memory>
-    requires { All (λ r. r < length net.now.theory.rules) rules.now.members }
+/// The pairs of rules with the numbers and those for what they attack to which they are superior, each once.
+pub(crate) fn pairs_below(
+    alloc: Global,
+    net: &Graph<'_>,
+    rules: &Found,
+) -> Result<IndexSet<Pair>, Memory>
+    requires { All (HasRule net.now) rules.now.members }
     ensures distinct { IfOk result (λ pairs. IsDistinct pairs.keys) }
     ensures pairs { IfOk result (λ pairs. (p : Pair) → Contains pairs.keys p ↔ IsBelow net.now rules.now.members p) }
 {

@@ -4,16 +4,16 @@ ghost use Rattle.std.specs.Prelude.{◌≡◌, ℕ, Bool, ◌<◌, length, All, 
 ghost use Rattle.dl_lit.specs.declared.literal.Tag.{Tag};
 ghost use Rattle.dl_theory.specs.Marks.{AreRight};
 ghost use Rattle.dl_marks.specs.Marks.{places, marked, is_owned};
-ghost use Rattle.dl_net.specs.Numbers.{literal_at};
+ghost use Rattle.dl_graph.specs.Numbers.{literal_at};
 ghost use Rattle.dl_fill.specs.Before.{tag_of};
 ghost use Rattle.dl_fill.specs.Filled.{stands};
 ghost use Rattle.dl_derive.specs.Part.{AreExactAt, Copies, HasAllBehind, IsOf, IsPart};
 
 use crate::found::Found;
 use dl_base::Memory;
+use dl_graph::Graph;
 use dl_lit::{Family, Literal, Tag};
 use dl_marks::{Marks, Steps};
-use dl_net::Net;
 use std::alloc::Global;
 use std::marker::Brand;
 use std::sync::ledger::{Blank, Ledger};
@@ -82,7 +82,7 @@ fn copy_row<L: Ledger>(
 }
 
 /// The number of a literal, if it is among the numbers.
-fn source(net: &Net, found: &Found, literal: &Literal) -> Option<usize>
+fn source(net: &Graph<'_>, found: &Found, literal: &Literal) -> Option<usize>
     requires { All (λ n. n < length net.now.names) found.now.members }
     ensures within { IfSome result (λ n. n < length net.now.names) }
     ensures there { IfSome result (λ n. Contains found.now.members n) }
@@ -104,10 +104,10 @@ fn source(net: &Net, found: &Found, literal: &Literal) -> Option<usize>
 /// Copies the marks of a literal of the part. Where it is none of those that matter, the marks of a new number are right. `Memory` where
 /// there is none for the literal that is sought.
 fn copy_number<L: Ledger>(
-    net: &Net,
+    net: &Graph<'_>,
     marks: &Marks,
     found: &Found,
-    small: &Net,
+    small: &Graph<'_>,
     number: usize,
     copy: &mut Marks,
     steps: &mut Steps<L>,
@@ -137,10 +137,10 @@ fn copy_number<L: Ledger>(
 /// The marks of the part, with steps of a blank ledger.
 fn copied<L: Ledger>(
     alloc: Global,
-    net: &Net,
+    net: &Graph<'_>,
     marks: &Marks,
     found: &Found,
-    small: &Net,
+    small: &Graph<'_>,
     blank: Blank,
 ) -> Result<Marks, Memory>
     requires name { blank.name ≡ L.name }
@@ -165,10 +165,10 @@ fn copied<L: Ledger>(
 /// The marks of the part of a net's theory that matters for literals with the numbers. `Memory` where there is none for them.
 pub(crate) fn copied_marks(
     alloc: Global,
-    net: &Net,
+    net: &Graph<'_>,
     marks: &Marks,
     found: &Found,
-    small: &Net,
+    small: &Graph<'_>,
 ) -> Result<Marks, Memory>
     requires right { AreRight net.now.theory net.now.names (places marks.now) (stands marks.now) }
     requires found { All (λ n. n < length net.now.names) found.now.members }

@@ -15,7 +15,7 @@ pub(crate) struct Found {
 }
 
 impl Model for Found {
-    ghost use Rattle.dl_net.specs.Region.{Numbers, IsRegion};
+    ghost use Rattle.dl_graph.specs.Region.{Numbers, IsRegion};
 
     ghost Value = { Numbers };
 
@@ -25,7 +25,7 @@ impl Model for Found {
 }
 
 impl Found {
-    ghost use Rattle.dl_net.specs.Region.{IsRegion};
+    ghost use Rattle.dl_graph.specs.Region.{IsRegion};
 
     /// No members.
     pub fn make(alloc: Global, bound: usize) -> Found

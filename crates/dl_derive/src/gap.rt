@@ -7,15 +7,15 @@ ghost use Rattle.dl_marks.specs.Marks.{places, marked};
 ghost use Rattle.dl_derive.specs.Gap.{open_tag, open_family, open_number, open_members};
 
 use dl_base::Memory;
+use dl_graph::{Graph, Region};
 use dl_lit::{Family, Tag, Tagged};
 use dl_marks::Marks;
-use dl_net::{Net, Region};
 use dl_theory::TaggedList;
 use std::alloc::Global;
 
 /// Adds the tagged literal, if its mark does not stand.
 fn push_open(
-    net: &Net,
+    net: &Graph<'_>,
     marks: &Marks,
     family: Family,
     plus: bool,
@@ -40,7 +40,7 @@ fn push_open(
 
 /// Adds what does not follow of one literal and family, plus before minus.
 fn push_family(
-    net: &Net,
+    net: &Graph<'_>,
     marks: &Marks,
     family: Family,
     number: usize,
@@ -57,7 +57,7 @@ fn push_family(
 
 /// Adds what does not follow of one literal, in the families that matter for one.
 fn push_number(
-    net: &Net,
+    net: &Graph<'_>,
     marks: &Marks,
     family: Family,
     number: usize,
@@ -86,7 +86,7 @@ fn push_number(
 /// What does not follow, of what matters, in the order of the members.
 fn open_list(
     alloc: Global,
-    net: &Net,
+    net: &Graph<'_>,
     marks: &Marks,
     family: Family,
     region: &Region,
@@ -107,7 +107,7 @@ fn open_list(
 /// What does not follow, of what matters, by literal, family and sign. `Memory` where there is none for the list.
 pub(crate) fn gap(
     alloc: Global,
-    net: &Net,
+    net: &Graph<'_>,
     marks: &Marks,
     family: Family,
     region: &Region,

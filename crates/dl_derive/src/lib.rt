@@ -1,4 +1,4 @@
-//! Answers with their certificates, from a net and its marks.
+//! Answers with their certificates, from a theory by numbers and its marks.
 //!
 //! The marks tell the verdict. What matters for the literal is gathered first: the literals behind it, along attackers and the
 //! bodies of rules. The part of the theory that bears on these is cut out: their facts, the rules for them, and the pairs between

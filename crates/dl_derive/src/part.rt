@@ -6,7 +6,7 @@ ghost use Rattle.dl_base.specs.Paths.{IsDistinct};
 ghost use Rattle.dl_theory.specs.declared.rule.Pair.{Pair};
 ghost use Rattle.dl_theory.specs.declared.rule.Rule.{Rule};
 ghost use Rattle.dl_theory.specs.Lists.{no_lists};
-ghost use Rattle.dl_net.specs.Numbers.{heads, literal_at, rule_at};
+ghost use Rattle.dl_graph.specs.Numbers.{HasRule, heads, literal_at, rule_at};
 ghost use Rattle.dl_derive.specs.Back.{Is, FromRow, Gains};
 ghost use Rattle.dl_derive.specs.Part.{AddsIf, AreRulesFor, HasAllBehind, IsBelow, IsOf, IsPart};
 
@@ -14,18 +14,18 @@ use crate::adding::{add_fact, add_pairs, add_rule};
 use crate::below::pairs_below;
 use crate::found::Found;
 use dl_base::Memory;
-use dl_net::Net;
+use dl_graph::Graph;
 use dl_theory::{Pair, Rule, Theory};
 use std::alloc::Global;
 
-/// Adds the places of the rules with that head.
-fn put_heads(net: &Net, number: usize, rules: &mut Found) -> Result<(), Memory>
+/// Adds the numbers of the rules with that head.
+fn put_heads(net: &Graph<'_>, number: usize, rules: &mut Found) -> Result<(), Memory>
     requires number { number < length net.now.names }
-    requires bound { rules.old.bound ≡ length net.now.theory.rules }
+    requires bound { rules.old.bound ≡ length net.now.rules }
     ensures { OnOk result (Gains (FromRow Is (heads net.now number)) rules.old rules.new) }
 {
     let _names = net.names();
-    for at in 0..net.rules_len() {
+    for at in 0..net.rule_numbers() {
         match net.heads(number, at) {
             Some(rule) => rules.put(rule)?,
             None => return Ok(()),
@@ -34,10 +34,10 @@ fn put_heads(net: &Net, number: usize, rules: &mut Found) -> Result<(), Memory>
     Ok(())
 }
 
-/// Adds the places of the rules for literals with the numbers.
-fn put_all_heads(net: &Net, found: &Found, rules: &mut Found) -> Result<(), Memory>
+/// Adds the numbers of the rules for literals with the numbers.
+fn put_all_heads(net: &Graph<'_>, found: &Found, rules: &mut Found) -> Result<(), Memory>
     requires found { All (λ n. n < length net.now.names) found.now.members }
-    requires bound { rules.old.bound ≡ length net.now.theory.rules }
+    requires bound { rules.old.bound ≡ length net.now.rules }
     ensures { OnOk result (Gains (FromRow (λ q. FromRow Is (heads net.now q)) found.now.members) rules.old rules.new) }
 {
     for at in 0..found.len() {
@@ -49,19 +49,19 @@ fn put_all_heads(net: &Net, found: &Found, rules: &mut Found) -> Result<(), Memo
     Ok(())
 }
 
-/// The places of the rules for literals with the numbers.
-fn rules_for(alloc: Global, net: &Net, found: &Found) -> Result<Found, Memory>
+/// The numbers of the rules for literals with the numbers.
+fn rules_for(alloc: Global, net: &Graph<'_>, found: &Found) -> Result<Found, Memory>
     requires { All (λ n. n < length net.now.names) found.now.members }
     ensures { IfOk result (AreRulesFor net.now found.now.members) }
 {
     let _names = net.names();
-    let mut rules = Found::make(alloc, net.rules_len());
+    let mut rules = Found::make(alloc, net.rule_numbers());
     put_all_heads(net, found, &mut rules)?;
     Ok(rules)
 }
 
 /// Adds a literal, where it is a fact.
-fn put_fact(net: &Net, number: usize, theory: &mut Theory) -> Result<(), Memory>
+fn put_fact(net: &Graph<'_>, number: usize, theory: &mut Theory) -> Result<(), Memory>
     requires number { number < length net.now.names }
     requires within { All (Contains net.now.theory.facts) theory.old.facts }
     ensures facts { OnOk result (AddsIf (Contains net.now.theory.facts) (literal_at net.now number) theory.old.facts theory.new.facts) }
@@ -76,7 +76,7 @@ fn put_fact(net: &Net, number: usize, theory: &mut Theory) -> Result<(), Memory>
 }
 
 /// Adds the facts among the literals with the numbers.
-fn put_facts(net: &Net, found: &Found, theory: &mut Theory) -> Result<(), Memory>
+fn put_facts(net: &Graph<'_>, found: &Found, theory: &mut Theory) -> Result<(), Memory>
     requires found { All (λ n. n < length net.now.names) found.now.members }
     requires none { theory.old.facts ≡ [] }
     ensures facts { OnOk result ((q : Literal) → Contains theory.new.facts q ↔ (Contains net.now.theory.facts q × IsOf net.now found.now.members q)) }
@@ -92,32 +92,38 @@ fn put_facts(net: &Net, found: &Found, theory: &mut Theory) -> Result<(), Memory
     Ok(())
 }
 
-/// A copy of the rule at a place.
-fn copied_rule(net: &Net, place: usize) -> Result<Rule, Memory>
-    requires { place < length net.now.theory.rules }
-    ensures { IfOk result (λ copy. copy ≡ rule_at net.now place) }
+/// A copy of the rule with a number.
+fn copied_rule(alloc: Global, net: &Graph<'_>, number: usize) -> Result<Rule, Memory>
+    requires { HasRule net.now number }
+    ensures { IfOk result (λ copy. copy ≡ rule_at net.now number) }
 {
-    match net.rule(place) {
+    match net.rule(number) {
         Some(rule) => {
-            let copy = rule.copy()?;
+            let copy = rule.copy(alloc)?;
             Ok(copy)
         }
         None => unreachable!(),
     }
 }
 
-/// Adds the rules at the places.
-fn put_rules(net: &Net, rules: &Found, theory: &mut Theory) -> Result<(), Memory>
-    requires inside { All (λ r. r < length net.now.theory.rules) rules.now.members }
+/// Adds the rules with the numbers.
+fn put_rules(
+    alloc: Global,
+    net: &Graph<'_>,
+    rules: &Found,
+    theory: &mut Theory,
+) -> Result<(), Memory>
+    requires inside { All (HasRule net.now) rules.now.members }
     requires none { theory.old.rules ≡ [] }
     ensures rules { OnOk result ((r : Rule) → Contains theory.new.rules r ↔ Contains (map (rule_at net.now) rules.now.members) r) }
     ensures facts { OnOk result (theory.new.facts ≡ theory.old.facts) }
     ensures pairs { OnOk result (theory.new.pairs ≡ theory.old.pairs) }
 {
+    let _names = net.names();
     for at in 0..rules.len() {
         match rules.at(at) {
-            Some(place) => {
-                let rule = copied_rule(net, place)?;
+            Some(number) => {
+                let rule = copied_rule(alloc, net, number)?;
                 add_rule(net, theory, rule)?;
             }
             None => return Ok(()),
@@ -128,7 +134,8 @@ fn put_rules(net: &Net, rules: &Found, theory: &mut Theory) -> Result<(), Memory
 
 /// Fills an empty theory with what bears on the literals with the numbers, from the rules for them and the pairs between these.
 fn fill_part(
-    net: &Net,
+    alloc: Global,
+    net: &Graph<'_>,
     found: &Found,
     rules: &Found,
     pairs: &[Pair],
@@ -144,13 +151,13 @@ fn fill_part(
 {
     let _names = net.names();
     put_facts(net, found, theory)?;
-    put_rules(net, rules, theory)?;
+    put_rules(alloc, net, rules, theory)?;
     add_pairs(net, theory, pairs)?;
     Ok(())
 }
 
 /// The same as a theory of its own.
-fn part_with(alloc: Global, net: &Net, found: &Found, rules: &Found) -> Result<Theory, Memory>
+fn part_with(alloc: Global, net: &Graph<'_>, found: &Found, rules: &Found) -> Result<Theory, Memory>
     requires found { All (λ n. n < length net.now.names) found.now.members }
     requires closed { HasAllBehind net.now.theory (IsOf net.now found.now.members) }
     requires rules { AreRulesFor net.now found.now.members rules.now }
@@ -158,7 +165,7 @@ fn part_with(alloc: Global, net: &Net, found: &Found, rules: &Found) -> Result<T
 {
     let pairs = pairs_below(alloc, net, rules)?;
     let mut theory = Theory::make(alloc);
-    let filled = fill_part(net, found, rules, pairs.as_slice(), &mut theory);
+    let filled = fill_part(alloc, net, found, rules, pairs.as_slice(), &mut theory);
     drop(pairs);
     match filled {
         Ok(()) => Ok(theory),
@@ -170,7 +177,7 @@ fn part_with(alloc: Global, net: &Net, found: &Found, rules: &Found) -> Result<T
 }
 
 /// The theory that has of the net's all that bears on the literals with the numbers. `Memory` where there is none for it.
-pub(crate) fn part(alloc: Global, net: &Net, found: &Found) -> Result<Theory, Memory>
+pub(crate) fn part(alloc: Global, net: &Graph<'_>, found: &Found) -> Result<Theory, Memory>
     requires found { All (λ n. n < length net.now.names) found.now.members }
     requires closed { HasAllBehind net.now.theory (IsOf net.now found.now.members) }
     ensures { IfOk result (IsPart (IsOf net.now found.now.members) net.now.theory) }

@@ -6,16 +6,16 @@ ghost use Rattle.dl_derive.specs.Ways.{IsRun};
 
 use dl_base::Memory;
 use dl_fill::{FamilyGates, Parts, make_parts, solve};
+use dl_graph::{Graph, Region};
 use dl_marks::Marks;
-use dl_net::{Graph, Region};
 use std::alloc::Global;
 
 /// For how many places nodes are made.
 fn places_of(net: &Graph<'_>) -> usize
     ensures names { length net.now.names ≤ result }
-    ensures rules { length net.now.theory.rules ≤ result }
+    ensures rules { length net.now.rules ≤ result }
 {
-    let rules = net.rules_len();
+    let rules = net.rule_numbers();
     let names = net.names();
     if rules < names { names } else { rules }
 }

@@ -3,14 +3,14 @@
 ghost use Rattle.std.specs.Prelude.{◌≡◌, ◌<◌, ◌++◌, ◌/◌, length, IfOk, OnOk, IsTrue};
 ghost use Rattle.dl_fill.specs.Before as before;
 ghost use Rattle.dl_fill.specs.Steps.{tag_at, with_tag, step_of, steps_of};
-ghost use Rattle.dl_net.specs.Numbers.{literal_at};
+ghost use Rattle.dl_graph.specs.Numbers.{literal_at};
 ghost use Rattle.dl_definite.specs.Definite.{definite_tags};
 
 use dl_base::Memory;
 use dl_definite::{DefiniteGates, WIDTH};
 use dl_fill::{FamilyGates, is_inside};
+use dl_graph::{Graph, Region};
 use dl_lit::{Tag, Tagged};
-use dl_net::{Graph, Region};
 use dl_theory::TaggedList;
 use std::alloc::Global;
 

@@ -12,8 +12,8 @@ use crate::way::rest;
 use dl_base::Memory;
 use dl_definite::DefiniteGates;
 use dl_fill::{Basis, FamilyGates};
+use dl_graph::{Graph, Region};
 use dl_marks::Marks;
-use dl_net::{Graph, Region};
 use std::alloc::Global;
 
 /// Nodes of the definite family in order, those that the gates of other nodes read among them.

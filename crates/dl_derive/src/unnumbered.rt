@@ -6,8 +6,8 @@ ghost use Rattle.dl_theory.specs.Verdicts.{Fits};
 ghost use Rattle.dl_derive.specs.Unnumbered.{refuted_steps};
 
 use dl_base::Memory;
+use dl_graph::Graph;
 use dl_lit::{Family, Literal, Tagged};
-use dl_net::Net;
 use dl_theory::{Answer, Certificate, TaggedList, Verdict};
 use std::alloc::Global;
 
@@ -41,7 +41,7 @@ fn refuted(alloc: Global, family: Family, literal: &Literal) -> Result<TaggedLis
 /// The answer on a literal without a number: it does not occur, so it is refuted in every family.
 pub(crate) fn unnumbered_answer(
     alloc: Global,
-    net: &Net,
+    net: &Graph<'_>,
     family: Family,
     literal: &Literal,
 ) -> Result<Answer, Memory>

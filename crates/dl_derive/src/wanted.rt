@@ -2,7 +2,7 @@
 
 ghost use Rattle.std.specs.Prelude.{◌≡◌, ℕ, ◌<◌, ◌≤◌, ◌+◌, ◌*◌, ◌/◌, ◌%◌, length, true, IfOk};
 ghost use Rattle.dl_marks.specs.Marks.{places, marked};
-ghost use Rattle.dl_net.specs.Counting.{times};
+ghost use Rattle.dl_graph.specs.Counting.{times};
 ghost use Rattle.dl_fill.specs.Before as before;
 ghost use Rattle.dl_fill.specs.Reads.{basis_at};
 ghost use Rattle.dl_derive.specs.Wanted.{IsWanted, IsMore, WithAttackers, WithPrevailing, WithFailing, With};
@@ -11,9 +11,9 @@ use crate::steps::is_here;
 use dl_base::Memory;
 use dl_definite::WIDTH;
 use dl_fill::{Basis, attack_holds};
+use dl_graph::{Graph, Region};
 use dl_lit::{Family, Tag};
 use dl_marks::Marks;
-use dl_net::{Graph, Region};
 use std::alloc::Global;
 
 fn want(wanted: &mut Vec<bool>, node: usize)

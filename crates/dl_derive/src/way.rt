@@ -2,7 +2,7 @@
 
 ghost use Rattle.std.specs.Prelude.{◌≡◌, ℕ, ◌<◌, ◌≤◌, length, slice_index_or, true, false, IfOk};
 ghost use Rattle.dl_marks.specs.Marks.{places};
-ghost use Rattle.dl_net.specs.Counting.{times};
+ghost use Rattle.dl_graph.specs.Counting.{times};
 ghost use Rattle.dl_fill.specs.Before.{before_of};
 ghost use Rattle.dl_fill.specs.Passing.{IsOrdered};
 ghost use Rattle.dl_derive.specs.Wanted.{IsWanted};
@@ -10,8 +10,8 @@ ghost use Rattle.dl_derive.specs.Ways.{IsRun, IsWay, IsFrontTo};
 
 use dl_base::Memory;
 use dl_fill::{Counters, FamilyGates, Parts, prune};
+use dl_graph::{Graph, Region};
 use dl_marks::Marks;
-use dl_net::{Graph, Region};
 use std::alloc::Global;
 
 /// One node is wanted.

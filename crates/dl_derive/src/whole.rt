@@ -6,7 +6,7 @@ ghost use Rattle.dl_lit.specs.Literal.{tagged};
 ghost use Rattle.dl_theory.specs.Derivations.{Follows};
 ghost use Rattle.dl_theory.specs.Verdicts.{needs, DerivesAt, Fits};
 ghost use Rattle.dl_marks.specs.Marks.{places};
-ghost use Rattle.dl_net.specs.Numbers.{literal_at};
+ghost use Rattle.dl_graph.specs.Numbers.{literal_at};
 ghost use Rattle.dl_theory.specs.Marks.{AreRight};
 ghost use Rattle.dl_fill.specs.Filled.{IsRight, stands};
 ghost use Rattle.dl_derive.specs.Asked.{IsAsked};
@@ -18,15 +18,15 @@ use crate::unnumbered::unnumbered_answer;
 use dl_base::Memory;
 use dl_block::BlockGates;
 use dl_definite::DefiniteGates;
+use dl_graph::{Graph, Region};
 use dl_lit::{Family, Literal, Tag};
 use dl_marks::Marks;
-use dl_net::{Graph, Net, Region};
 use dl_prop::PropGates;
 use dl_theory::{Answer, Certificate, TaggedList, Verdict};
 use std::alloc::Global;
 
-/// A derivation that ends with the literal, the family and the sign, of what matters in a graph.
-fn graph_steps(
+/// A derivation that ends with the literal, the family and the sign, of what matters.
+fn steps_to(
     alloc: Global,
     net: &Graph<'_>,
     marks: &Marks,
@@ -56,27 +56,10 @@ fn graph_steps(
     }
 }
 
-/// A derivation that ends with the literal, the family and the sign, of what matters in a net.
-fn steps_to(
-    alloc: Global,
-    net: &Net,
-    marks: &Marks,
-    region: &Region,
-    plus: bool,
-    family: Family,
-    number: usize,
-) -> Result<TaggedList, Memory>
-    requires asked { IsAsked net.now marks.now region.now family number }
-    requires follows { Follows net.now.theory (tagged plus family (literal_at net.now number)) }
-    ensures { IfOk result (DerivesAt net.now.theory family (literal_at net.now number) (tagged plus family (literal_at net.now number))) }
-{
-    graph_steps(alloc, &net.graph(), marks, region, plus, family, number)
-}
-
 /// The answer on a literal that has a number.
 fn answer_at(
     alloc: Global,
-    net: &Net,
+    net: &Graph<'_>,
     marks: &Marks,
     family: Family,
     number: usize,
@@ -118,7 +101,7 @@ fn answer_at(
 /// where there is none for it.
 pub(crate) fn certify_whole(
     alloc: Global,
-    net: &Net,
+    net: &Graph<'_>,
     marks: &Marks,
     family: Family,
     literal: &Literal,

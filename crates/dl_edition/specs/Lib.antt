@@ -1,3 +1,4 @@
 pub mod Editions
+pub mod Lines
 pub mod KeptEdition
 pub mod Offices

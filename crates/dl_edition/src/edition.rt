@@ -68,7 +68,7 @@ impl Edition {
     pub(crate) fn verdict(&self, family: Family, literal: &Literal) -> Verdict
         ensures { IsVerdict self.now family literal.now result }
     {
-        verdict_of(&self.net, &self.marks, family, literal)
+        verdict_of(&self.net.graph(), &self.marks, family, literal)
     }
 
     pub(crate) fn ask(&self, family: Family, literal: &Literal) -> Result<Answer, Memory>
@@ -76,7 +76,7 @@ impl Edition {
     {
         certify(
             *self.order.allocator(),
-            &self.net,
+            &self.net.graph(),
             &self.marks,
             family,
             literal,
@@ -86,8 +86,10 @@ impl Edition {
     pub(crate) fn lines(&self) -> usize
         ensures { result ≡ line_count self.now }
     {
-        let _names = self.net.names();
-        self.net.facts_len() + self.net.rules_len() + self.net.pairs_len()
+        let net = self.net.graph();
+        // A theory that has numbers is well-formed, so the sum is small.
+        let _names = net.names();
+        net.facts_len() + net.rules_len() + net.pairs_len()
     }
 
     pub(crate) fn write_text<S: Sink>(&self, sink: &mut S) -> Result<(), Failed>
@@ -95,7 +97,7 @@ impl Edition {
         ensures cause { HasCause (S.faults sink.old) (S.faults sink.new) result }
         ensures name { S.name sink.new ≡ S.name sink.old }
     {
-        write_net(sink, &self.net)
+        write_net(sink, &self.net.graph())
     }
 
     pub(crate) fn conclusions(&self, family: Family) -> Result<Conclusions, Memory>
@@ -103,7 +105,7 @@ impl Edition {
     {
         ordered_conclusions(
             *self.order.allocator(),
-            &self.net,
+            &self.net.graph(),
             &self.marks,
             family,
             self.order.as_slice(),

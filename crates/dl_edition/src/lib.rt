@@ -11,6 +11,7 @@ mod edition;
 mod held;
 mod hold_answer;
 mod office;
+mod rule;
 mod text;
 
 pub use dl_base::Memory;

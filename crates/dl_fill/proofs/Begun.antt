@@ -3,11 +3,11 @@ use Rattle.std.proofs.Common.{◌≡◌, ◌≢◌, ℕ, zero, suc, ◌+◌, ◌
 use Rattle.std.specs.Prelude.{nat_lt}
 use Rattle.std.proofs.lemmas.Bool.{cases_lt, eq-eqb, ne_eqb}
 use Rattle.std.proofs.lemmas.List.{take_more, append-nil}
-use Rattle.dl_net.specs.Counting.{times}
+use Rattle.dl_graph.specs.Counting.{times}
 use Rattle.dl_fill.specs.Counters.{CounterLists}
 use Rattle.dl_fill.proofs.Times.{times_push_same, times_push_other}
 use Rattle.dl_fill.proofs.Engine.{IsClosedFrom, IsRun, IsSettled, run_pops, run_ends, length-hits}
-use Rattle.dl_net.specs.Numbers.{NetLists}
+use Rattle.dl_graph.specs.Numbers.{NetLists}
 use Rattle.dl_fill.specs.declared.wire.Wire.{Wire}
 use Rattle.dl_fill.specs.declared.wire.Gate.{Gate}
 use Rattle.dl_fill.specs.declared.wire.Gate.TheVariants.{Every, Either, Now, Never}

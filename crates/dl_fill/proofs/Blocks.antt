@@ -2,7 +2,7 @@
 use Rattle.std.proofs.Common.{◌≡◌, ℕ, zero, suc, ◌+◌, ◌-◌, ◌<◌, ◌≤◌, ◌==◌, cond, Bool, true, false, List, [], ◌∷◌, ◌++◌, length, get_or, set, take, sym, subst, ap, refl, ◌∙◌, arith, append_assoc, length-set}
 use Rattle.std.specs.List.{fold}
 use Rattle.std.proofs.lemmas.List.{append-nil, take_more}
-use Rattle.dl_net.specs.Counting.{times}
+use Rattle.dl_graph.specs.Counting.{times}
 use Rattle.dl_fill.specs.Cells.{CellLists, comes_down, counted_down, come_down}
 use Rattle.dl_fill.specs.Counters.{CounterLists, IsKept, hit, chosen}
 use Rattle.dl_fill.proofs.Times.{times_cons_same}

@@ -21,9 +21,9 @@ use Rattle.dl_theory.specs.Pairs.{pair_eq, pair_eq-Decides}
 use Rattle.dl_theory.specs.Conditions.{IsOn, IsOff, Prevails, Fails, Condition}
 use Rattle.dl_theory.specs.Derivations.{Follows}
 use Rattle.dl_theory.proofs.Deciding.{decided}
-use Rattle.dl_net.specs.Counting.{times}
-use Rattle.dl_net.specs.Numbers.{NetLists, IsNumbered, no_literal, no_rule, literal_at, rule_at, number, back}
-use Rattle.dl_net.specs.declared.link.Link.TheVariants.{Opposes as Opposing}
+use Rattle.dl_graph.specs.Counting.{times}
+use Rattle.dl_graph.specs.Numbers.{NetLists, IsNumbered, no_literal, literal_at, rule_at, number, back}
+use Rattle.dl_graph.specs.declared.link.Link.TheVariants.{Opposes as Opposing}
 use Rattle.dl_fill.specs.Rivals.{Defending}
 use Rattle.dl_fill.specs.Meanings.{IsSupported, IsUnsupported, IsAnswered, IsUnanswered}
 use Rattle.dl_fill.specs.declared.basis.Basis.{Basis}
@@ -34,7 +34,7 @@ use Rattle.dl_fill.specs.Wires.{through}
 use Rattle.dl_fill.specs.Gates.{Passes}
 use Rattle.dl_fill.proofs.Attacks.{attack_meets}
 use Rattle.dl_fill.proofs.Links.{number_finds, number_inside, attacker_named, opposes_listing, single, single_has}
-use Rattle.dl_fill.proofs.Members.{every_first, every_second, every_both, either_of, either_first, either_second, any_from, any_to, all_from}
+use Rattle.dl_fill.proofs.Members.{every_first, every_second, every_both, either_of, either_first, either_second, any_from, any_to, all_from, all_to}
 use Rattle.dl_fill.proofs.Gating.{open_gate, close_gate, below}
 
 plus_cases : (P : ℕ → Type 0) (s a : Bool) (xs : List ℕ) → Passes P (plus_gate s a) xs
@@ -151,6 +151,10 @@ module _ (N : NetLists) (numbered : IsNumbered N) (b : Before) (definite : IsExa
       abbrev Unbeaten : Rule → Type 0
       Unbeaten u = IsOn got against u × All (λ t. Defending N.theory u t → IsOff got f t) N.theory.rules
 
+      -- the same in the terms of a literal that u opposes
+      abbrev AnswerFor : Literal → Rule → Type 0
+      AnswerFor q u = IsOff got against u ⊎ Any (λ t. Supports q t × Beats N.theory t u × IsOn got f t) N.theory.rules
+
       -- a rule that defends its head against u supports what u opposes
       defender_supports : (q : Literal) (u t : Rule) → Opposes N.theory q u → Defending N.theory u t → Supports q t
       defender_supports q u t o d = (attack_meets N.theory t.head q u.head d.1 o, d.2)
@@ -159,13 +163,11 @@ module _ (N : NetLists) (numbered : IsNumbered N) (b : Before) (definite : IsExa
       supporter_defends q u t o s beats = (beats, subst (λ (x : Literal). Opposes N.theory x u) (sym s.0) o, s.1)
 
       -- a rule against q is answered, in the terms of q
-      answered_for : (q : Literal) (u : Rule) → Opposes N.theory q u → Answer u
-          → IsOff got against u ⊎ Any (λ t. Supports q t × Beats N.theory t u × IsOn got f t) N.theory.rules
+      answered_for : (q : Literal) (u : Rule) → Opposes N.theory q u → Answer u → AnswerFor q u
       answered_for q u o (inl off) = inl off
       answered_for q u o (inr h) = inr (h.0, h.1, h.2, h.3, (defender_supports q u h.1 o h.4.0, h.4.0.0, h.4.1))
 
-      answered_by : (q : Literal) (u : Rule) → Opposes N.theory q u
-          → IsOff got against u ⊎ Any (λ t. Supports q t × Beats N.theory t u × IsOn got f t) N.theory.rules → Answer u
+      answered_by : (q : Literal) (u : Rule) → Opposes N.theory q u → AnswerFor q u → Answer u
       answered_by q u o (inl off) = inl off
       answered_by q u o (inr h) = inr (h.0, h.1, h.2, h.3, (supporter_defends q u h.1 o h.4.0 h.4.1, h.4.2))
 
@@ -209,7 +211,8 @@ module _ (N : NetLists) (numbered : IsNumbered N) (b : Before) (definite : IsExa
                   (λ i m. subst (λ (v : ℕ). P (v * s + k)) (sym (single i q m)) (supported (lt, p.supported)))
                   (λ u m.
                   let o = (opposes_listing N numbered q lt).sound u m in
-                  answered u o.1 (o.0, answered_by (literal_at N q) (rule_at N u) o.1 (p.answered u no_rule o.0 o.1))))
+                  let a = all_to N numbered (Opposes N.theory (literal_at N q)) (back N Opposing q) (opposes_listing N numbered q lt) (AnswerFor (literal_at N q)) p.answered u m in
+                  answered u o.1 (o.0, answered_by (literal_at N q) (rule_at N u) o.1 a)))
             ])
 
         pub minus_passes : got (tagged false Definite (literal_at N q)) × Fails N.theory got f against (literal_at N q)
@@ -231,7 +234,7 @@ module _ (N : NetLists) (numbered : IsNumbered N) (b : Before) (definite : IsExa
                     minus_now P (b.marked (tag_of false Definite) q) (attack_holds N b.marked q) below_q unsure
                     ((holds_exact q lt).1 (attacked.0, attacked.1, attacked.2, attacked.3, follows (tagged true Definite attacked.1) attacked.4))
                 | inr defeated ↦
-                    let r = any_to N (Opposes N.theory (literal_at N q)) (back N Opposing q) (opposes_listing N numbered q lt) Unbeaten
+                    let r = any_to N numbered (Opposes N.theory (literal_at N q)) (back N Opposing q) (opposes_listing N numbered q lt) Unbeaten
                     (defeated.0, defeated.1, defeated.2, defeated.3, (defeated.4.0, (defeated.4.1, unbeaten_by (literal_at N q) defeated.1 defeated.4.0 defeated.4.2))) in
                     let o = (opposes_listing N numbered q lt).sound r.0 r.1 in
                     minus_either P (b.marked (tag_of false Definite) q) (attack_holds N b.marked q) below_q unsure
@@ -261,7 +264,7 @@ module _ (N : NetLists) (numbered : IsNumbered N) (b : Before) (definite : IsExa
                     unopposed = (reads lt).fails every.0 every.1;
                     answered = λ j d inside o.
                         answered_for got (literal_at N q) (get_or N.theory.rules j d) o
-                        (all_from N (Opposes N.theory (literal_at N q)) (back N Opposing q) (opposes_listing N numbered q lt) (Answer got)
+                        (all_from N numbered (Opposes N.theory (literal_at N q)) (back N Opposing q) (opposes_listing N numbered q lt) (Answer got)
                         (λ u m. (answered u (every_second P s k l small small' (q ∷ []) (back N Opposing q) every.2 u m)).1) j d inside o);
                   }))
             ],
@@ -284,7 +287,7 @@ module _ (N : NetLists) (numbered : IsNumbered N) (b : Before) (definite : IsExa
                     elim (either_of P s k l small small' (q ∷ []) (back N Opposing q) either.1) [
                       | inl m ↦ inl (unsupported q (subst (λ (v : ℕ). P (v * s + k)) (single m.0 q m.1) m.2)).1
                       | inr m ↦
-                          let a = any_from N (Opposes N.theory (literal_at N q)) (back N Opposing q) (opposes_listing N numbered q lt) (Unbeaten got) m.0 m.1 (unanswered m.0 m.2).1 in
+                          let a = any_from N numbered (Opposes N.theory (literal_at N q)) (back N Opposing q) (opposes_listing N numbered q lt) (Unbeaten got) m.0 m.1 (unanswered m.0 m.2).1 in
                           inr (inr (a.0, a.1, a.2, a.3, (a.4.0, a.4.1.0, unbeaten_for got (literal_at N q) a.1 a.4.0 a.4.1.1)))
                     ],
                   )

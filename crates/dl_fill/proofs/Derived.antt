@@ -18,8 +18,8 @@ use Rattle.dl_theory.specs.Conditions.{Meets}
 use Rattle.dl_theory.specs.Derivations.{Derives}
 use Rattle.dl_theory.proofs.Within.{IsClosedUnder, meets_more}
 use Rattle.dl_theory.proofs.Steps.{derives_join}
-use Rattle.dl_net.specs.Counting.{times}
-use Rattle.dl_net.specs.Numbers.{NetLists, IsNumbered, number, literal_at}
+use Rattle.dl_graph.specs.Counting.{times}
+use Rattle.dl_graph.specs.Numbers.{NetLists, IsNumbered, number, literal_at}
 use Rattle.dl_fill.specs.declared.wire.Gate.{Gate}
 use Rattle.dl_fill.specs.Gates.{Passes}
 use Rattle.dl_fill.specs.Passing.{Passing}

@@ -6,9 +6,9 @@ use Rattle.std.proofs.lemmas.List.Elements.{All-head, All-tail, All-cons}
 use Rattle.std.proofs.lemmas.Option.{slice_get-get_or}
 use Rattle.dl_base.proofs.Distinct.{distinct_cons}
 use Rattle.dl_base.proofs.Filters.{filter_all}
-use Rattle.dl_net.specs.Region.{Numbers, IsRegion}
-use Rattle.dl_net.specs.Numbers.{NetLists, IsNumbered, back}
-use Rattle.dl_net.specs.declared.link.Link.TheVariants.{Uses}
+use Rattle.dl_graph.specs.Region.{Numbers, IsRegion}
+use Rattle.dl_graph.specs.Numbers.{NetLists, IsNumbered, back}
+use Rattle.dl_graph.specs.declared.link.Link.TheVariants.{Uses}
 use Rattle.dl_fill.specs.Before.{is_inside}
 use Rattle.dl_fill.proofs.Written.{inside_decides, member_or_not}
 use Rattle.dl_fill.proofs.Touching.{body_inside}

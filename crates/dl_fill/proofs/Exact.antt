@@ -5,8 +5,8 @@ use Rattle.std.proofs.lemmas.List.Elements.{Contains-get_or}
 use Rattle.dl_lit.specs.declared.literal.Family.{Family}
 use Rattle.dl_theory.specs.Verdicts.{needs}
 use Rattle.dl_theory.proofs.Within.{IsClosedUnder}
-use Rattle.dl_net.specs.Counting.{times}
-use Rattle.dl_net.specs.Numbers.{NetLists, IsNumbered}
+use Rattle.dl_graph.specs.Counting.{times}
+use Rattle.dl_graph.specs.Numbers.{NetLists, IsNumbered}
 use Rattle.dl_fill.specs.Counters.{CounterLists}
 use Rattle.dl_fill.specs.declared.wire.Wire.{Wire}
 use Rattle.dl_fill.specs.declared.wire.Gate.{Gate}

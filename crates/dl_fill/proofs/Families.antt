@@ -6,9 +6,9 @@ use Rattle.std.proofs.lemmas.List.Elements.{All-weaker, All-contains}
 use Rattle.dl_lit.specs.declared.literal.Family.{Family}
 use Rattle.dl_lit.specs.declared.literal.Family.TheVariants.{Definite, Blocking, Propagating, Support}
 use Rattle.dl_marks.specs.Marks.{Marking, places, marked, is_owned}
-use Rattle.dl_net.specs.Counting.{times}
-use Rattle.dl_net.specs.Region.{Numbers}
-use Rattle.dl_net.specs.Numbers.{NetLists, IsNumbered}
+use Rattle.dl_graph.specs.Counting.{times}
+use Rattle.dl_graph.specs.Region.{Numbers}
+use Rattle.dl_graph.specs.Numbers.{NetLists, IsNumbered}
 use Rattle.dl_fill.specs.declared.wire.Gate.{Gate}
 use Rattle.dl_fill.specs.Before.{Before, tag_of, before_of}
 use Rattle.dl_fill.specs.Counters.{CounterLists}
@@ -164,7 +164,7 @@ module _ (t : FamilyTable) (gate : NetLists → Before → ℕ → ℕ → Gate)
   -- a run solves the families
   module _ (N : NetLists) (numbered : IsNumbered N) (m : Marking) (region : Numbers) (rules : List ℕ) (w : CounterLists)
       (run : HasRun N (before_of m region) region.members t.width t.literals t.wires (gate N (before_of m region)) rules w)
-      (places : ℕ) (size : length w.need ≡ places * t.width) (names_fit : length N.names ≤ places) (rules_fit : length N.theory.rules ≤ places)
+      (places : ℕ) (size : length w.need ≡ places * t.width) (names_fit : length N.names ≤ places) (rules_fit : length N.rules ≤ places)
       (below : All (λ q. q < region.bound) region.members) (ready : IsReady N (IsFilledBy t) m region)
       (right : (f : Family) → Contains t.below f → IsRight N m f) where
     within : (q : ℕ) → 0 < times q region.members → q < length N.names

@@ -4,7 +4,7 @@ use Rattle.std.proofs.Common.{◌≡◌, ℕ, ◌+◌, ◌*◌, ◌<◌, ◌&&�
 use Rattle.std.specs.Prelude.{All, Any, nat_lt, not, filter}
 use Rattle.std.specs.List.{list_all, list_any}
 use Rattle.dl_theory.specs.Derivations.{Follows}
-use Rattle.dl_fill.specs.Before.{Before, tag_of, outside_is_on, outside_is_off, on_gate, off_gate, IsExactOutside}
+use Rattle.dl_fill.specs.Before.{Before, tag_of, is_rule, outside_is_on, outside_is_off, on_gate, off_gate, IsExactOutside}
 use Rattle.dl_fill.proofs.Times.{times_cons_same, times_cons_other}
 use Rattle.dl_fill.proofs.Once.{times-filter_le, times-filter_kept}
 use Rattle.std.proofs.lemmas.Bool.{cases_eq, ltb-true, lt-ltb}
@@ -16,10 +16,10 @@ use Rattle.dl_lit.specs.Literal.{tagged}
 use Rattle.dl_theory.specs.declared.rule.Rule.{Rule}
 use Rattle.dl_theory.specs.Lists.{Supports}
 use Rattle.dl_theory.specs.Conditions.{IsOn, IsOff}
-use Rattle.dl_net.specs.Counting.{times}
-use Rattle.dl_net.specs.Numbers.{NetLists, IsNumbered, literal_at, rule_at, number, back}
-use Rattle.dl_net.specs.declared.link.Link.{Link}
-use Rattle.dl_net.specs.declared.link.Link.TheVariants.{Uses, Backs}
+use Rattle.dl_graph.specs.Counting.{times}
+use Rattle.dl_graph.specs.Numbers.{NetLists, IsNumbered, HasRule, literal_at, rule_at, number, back}
+use Rattle.dl_graph.specs.declared.link.Link.{Link}
+use Rattle.dl_graph.specs.declared.link.Link.TheVariants.{Uses, Backs}
 use Rattle.dl_fill.specs.Meanings.{HasTag, IsOnAt, IsOffAt, IsSupported, IsUnsupported, IsAnsweredBy, IsUnansweredBy}
 use Rattle.dl_fill.specs.declared.wire.Gate.{Gate}
 use Rattle.dl_fill.specs.declared.wire.Gate.TheVariants.{Every, Either, Never}
@@ -125,31 +125,35 @@ times-filter_true p i (x ∷ xs) h = picked_true p i x (filter p xs) (p x) refl 
 abbrev pub below : ℕ → ℕ → Gate → Gate
 below i bound g = cond (nat_lt i bound) g Never
 
+-- a gate that is open at the number of a rule
+abbrev pub at_rule : NetLists → ℕ → Gate → Gate
+at_rule N r g = cond (is_rule N r) g Never
+
 module _ (N : NetLists) (numbered : IsNumbered N) (got : Tagged → Type 0) (P : ℕ → Type 0) (s : ℕ) where
   -- some rule of a kind that leads to the literal has Q, or each has
   module _ (R : Rule → Type 0) (rules : List ℕ) (listing : IsListing N R rules) (Q : Rule → Type 0) (k : ℕ) (small : k < s) where
-    pub some_sound : ((i : ℕ) → P (i * s + k) → (i < length N.theory.rules) × Q (rule_at N i)) → Passes P Either (through s k rules ++ [])
+    pub some_sound : ((i : ℕ) → P (i * s + k) → HasRule N i × Q (rule_at N i)) → Passes P Either (through s k rules ++ [])
         → Any (λ r. R r × Q r) N.theory.rules
     some_sound into h =
         let m = either_one P s k k small small rules [] h in
-        any_from N R rules listing Q m.0 m.1 (into m.0 m.2).1
+        any_from N numbered R rules listing Q m.0 m.1 (into m.0 m.2).1
 
-    pub some_passes : Any (λ r. R r × Q r) N.theory.rules → ((r : ℕ) → R (rule_at N r) → (r < length N.theory.rules) × Q (rule_at N r) → P (r * s + k))
+    pub some_passes : Any (λ r. R r × Q r) N.theory.rules → ((r : ℕ) → R (rule_at N r) → HasRule N r × Q (rule_at N r) → P (r * s + k))
         → Passes P Either (through s k rules ++ [])
     some_passes h from =
-        let r = any_to N R rules listing Q h in
+        let r = any_to N numbered R rules listing Q h in
         let lt = listing.sound r.0 r.1 in
         either_one_back P s k k small small rules [] r.0 r.1 (from r.0 lt.1 (lt.0, r.2))
 
-    pub each_sound : ((i : ℕ) → P (i * s + k) → (i < length N.theory.rules) × Q (rule_at N i)) → Passes P Every (through s k rules ++ [])
+    pub each_sound : ((i : ℕ) → P (i * s + k) → HasRule N i × Q (rule_at N i)) → Passes P Every (through s k rules ++ [])
         → All (λ r. R r → Q r) N.theory.rules
-    each_sound into h = all_from N R rules listing Q (λ r m. (into r (every_one P s k k small small rules [] h r m)).1)
+    each_sound into h = all_from N numbered R rules listing Q (λ r m. (into r (every_one P s k k small small rules [] h r m)).1)
 
-    pub each_passes : All (λ r. R r → Q r) N.theory.rules → ((r : ℕ) → R (rule_at N r) → (r < length N.theory.rules) × Q (rule_at N r) → P (r * s + k))
+    pub each_passes : All (λ r. R r → Q r) N.theory.rules → ((r : ℕ) → R (rule_at N r) → HasRule N r × Q (rule_at N r) → P (r * s + k))
         → Passes P Every (through s k rules ++ [])
     each_passes h from =
         every_one_back P s k k small small rules []
-        (λ r n. let lt = listing.sound r n in from r lt.1 (lt.0, all_to N R rules listing Q h r n))
+        (λ r n. let lt = listing.sound r n in from r lt.1 (lt.0, all_to N numbered R rules listing Q h r n))
 
   -- a literal is supported, or not
   module _ (f : Family) (k : ℕ) (small : k < s) (q : ℕ) where
@@ -180,57 +184,57 @@ module _ (N : NetLists) (numbered : IsNumbered N) (got : Tagged → Type 0) (P :
         (each_passes (Supports (literal_at N q)) (back N Backs q) (backs_listing N numbered q m.0) (IsOff got f) k small m.1 from)
 
   -- a rule is answered: off by nodes of kind k, or one of its rivals is on, of kind l
-  module _ (Rival : Rule → Rule → Type 0) (link : Link) (listing : (u : ℕ) → u < length N.theory.rules → IsListing N (Rival (rule_at N u)) (back N link u))
+  module _ (Rival : Rule → Rule → Type 0) (link : Link) (listing : (u : ℕ) → HasRule N u → IsListing N (Rival (rule_at N u)) (back N link u))
       (f against : Family) (k l : ℕ) (small : k < s) (small' : l < s) (u : ℕ) where
     pub answered_sound : ((i : ℕ) → P (i * s + k) → IsOffAt N got against i) → ((i : ℕ) → P (i * s + l) → IsOnAt N got f i)
-        → Passes P (below u (length N.theory.rules) Either) (through s k (u ∷ []) ++ (through s l (back N link u) ++ [])) → IsAnsweredBy N got Rival f against u
+        → Passes P (at_rule N u Either) (through s k (u ∷ []) ++ (through s l (back N link u) ++ [])) → IsAnsweredBy N got Rival f against u
     answered_sound off on h =
-        let o = open_gate P (nat_lt u (length N.theory.rules)) Either (through s k (u ∷ []) ++ (through s l (back N link u) ++ [])) h in
-        let lt : u < length N.theory.rules = ltb-true u (length N.theory.rules) o.0 in (
+        let o = open_gate P (is_rule N u) Either (through s k (u ∷ []) ++ (through s l (back N link u) ++ [])) h in
+        let lt : HasRule N u = o.0 in (
           lt,
           elim (either_of P s k l small small' (u ∷ []) (back N link u) o.1) [
             | inl m ↦ inl (subst (λ (i : ℕ). IsOff got against (rule_at N i)) (single m.0 u m.1) (off m.0 m.2).1)
-            | inr m ↦ inr (any_from N (Rival (rule_at N u)) (back N link u) (listing u lt) (IsOn got f) m.0 m.1 (on m.0 m.2).1)
+            | inr m ↦ inr (any_from N numbered (Rival (rule_at N u)) (back N link u) (listing u lt) (IsOn got f) m.0 m.1 (on m.0 m.2).1)
           ],
         )
 
     pub answered_passes : IsAnsweredBy N got Rival f against u → (IsOffAt N got against u → P (u * s + k))
         → ((t : ℕ) → Rival (rule_at N u) (rule_at N t) → IsOnAt N got f t → P (t * s + l))
-        → Passes P (below u (length N.theory.rules) Either) (through s k (u ∷ []) ++ (through s l (back N link u) ++ []))
+        → Passes P (at_rule N u Either) (through s k (u ∷ []) ++ (through s l (back N link u) ++ []))
     answered_passes m off on =
-        close_gate P (nat_lt u (length N.theory.rules)) Either (through s k (u ∷ []) ++ (through s l (back N link u) ++ [])) (lt-ltb u (length N.theory.rules) m.0)
+        close_gate P (is_rule N u) Either (through s k (u ∷ []) ++ (through s l (back N link u) ++ [])) m.0
         (elim m.1 [
           | inl h ↦ either_first P s k l small small' (u ∷ []) (back N link u) u (single_has u u refl) (off (m.0, h))
           | inr h ↦
-              let r = any_to N (Rival (rule_at N u)) (back N link u) (listing u m.0) (IsOn got f) h in
+              let r = any_to N numbered (Rival (rule_at N u)) (back N link u) (listing u m.0) (IsOn got f) h in
               let d = (listing u m.0).sound r.0 r.1 in
               either_second P s k l small small' (u ∷ []) (back N link u) r.0 r.1 (on r.0 d.1 (d.0, r.2))
         ])
 
     -- a rule is on by nodes of kind k, and each of its rivals is off, of kind l
     pub unanswered_sound : ((i : ℕ) → P (i * s + k) → IsOnAt N got against i) → ((i : ℕ) → P (i * s + l) → IsOffAt N got f i)
-        → Passes P (below u (length N.theory.rules) Every) (through s k (u ∷ []) ++ (through s l (back N link u) ++ [])) → IsUnansweredBy N got Rival f against u
+        → Passes P (at_rule N u Every) (through s k (u ∷ []) ++ (through s l (back N link u) ++ [])) → IsUnansweredBy N got Rival f against u
     unanswered_sound on off h =
-        let o = open_gate P (nat_lt u (length N.theory.rules)) Every (through s k (u ∷ []) ++ (through s l (back N link u) ++ [])) h in
-        let lt : u < length N.theory.rules = ltb-true u (length N.theory.rules) o.0 in (
+        let o = open_gate P (is_rule N u) Every (through s k (u ∷ []) ++ (through s l (back N link u) ++ [])) h in
+        let lt : HasRule N u = o.0 in (
           lt,
           (
             (on u (every_first P s k l small small' (u ∷ []) (back N link u) o.1 u (single_has u u refl))).1,
-            all_from N (Rival (rule_at N u)) (back N link u) (listing u lt) (IsOff got f)
+            all_from N numbered (Rival (rule_at N u)) (back N link u) (listing u lt) (IsOff got f)
                 (λ t m. (off t (every_second P s k l small small' (u ∷ []) (back N link u) o.1 t m)).1),
           ),
         )
 
     pub unanswered_passes : IsUnansweredBy N got Rival f against u → (IsOnAt N got against u → P (u * s + k))
         → ((t : ℕ) → Rival (rule_at N u) (rule_at N t) → IsOffAt N got f t → P (t * s + l))
-        → Passes P (below u (length N.theory.rules) Every) (through s k (u ∷ []) ++ (through s l (back N link u) ++ []))
+        → Passes P (at_rule N u Every) (through s k (u ∷ []) ++ (through s l (back N link u) ++ []))
     unanswered_passes m on off =
-        close_gate P (nat_lt u (length N.theory.rules)) Every (through s k (u ∷ []) ++ (through s l (back N link u) ++ [])) (lt-ltb u (length N.theory.rules) m.0)
+        close_gate P (is_rule N u) Every (through s k (u ∷ []) ++ (through s l (back N link u) ++ [])) m.0
         (every_both P s k l small small' (u ∷ []) (back N link u)
         (λ i n. subst (λ (v : ℕ). P (v * s + k)) (sym (single i u n)) (on (m.0, m.1.0)))
         (λ t n.
         let d = (listing u m.0).sound t n in
-        off t d.1 (d.0, all_to N (Rival (rule_at N u)) (back N link u) (listing u m.0) (IsOff got f) m.1.1 t n)))
+        off t d.1 (d.0, all_to N numbered (Rival (rule_at N u)) (back N link u) (listing u m.0) (IsOff got f) m.1.1 t n)))
 
 -- what is marked outside the region is got
 abbrev pub IsGotOutside : NetLists → Before → Family → (Tagged → Type 0) → Type 0
@@ -248,10 +252,10 @@ module _ (N : NetLists) (numbered : IsNumbered N) (b : Before) (f : Family) (got
 
   -- a rule is on
   pub on_sound : ((i : ℕ) → P (i * s + k) → HasTag N got true f i)
-      → Passes P (below r (length N.theory.rules) (on_gate (outside_is_on N b f r))) (through s k (filter b.inside (back N Uses r)) ++ []) → IsOnAt N got f r
+      → Passes P (at_rule N r (on_gate (outside_is_on N b f r))) (through s k (filter b.inside (back N Uses r)) ++ []) → IsOnAt N got f r
   on_sound into h =
-      let o = open_gate P (nat_lt r (length N.theory.rules)) (on_gate (outside_is_on N b f r)) (through s k (filter b.inside (back N Uses r)) ++ []) h in
-      let lt : r < length N.theory.rules = ltb-true r (length N.theory.rules) o.0 in
+      let o = open_gate P (is_rule N r) (on_gate (outside_is_on N b f r)) (through s k (filter b.inside (back N Uses r)) ++ []) h in
+      let lt : HasRule N r = o.0 in
       let c = on_cases P (outside_is_on N b f r) (through s k (filter b.inside (back N Uses r)) ++ []) o.1 in (
         lt,
         λ j d inside.
@@ -274,10 +278,10 @@ module _ (N : NetLists) (numbered : IsNumbered N) (b : Before) (f : Family) (got
 
   -- a rule is off
   pub off_sound : ((i : ℕ) → P (i * s + k) → HasTag N got false f i)
-      → Passes P (below r (length N.theory.rules) (off_gate (outside_is_off N b f r))) (through s k (filter b.inside (back N Uses r)) ++ []) → IsOffAt N got f r
+      → Passes P (at_rule N r (off_gate (outside_is_off N b f r))) (through s k (filter b.inside (back N Uses r)) ++ []) → IsOffAt N got f r
   off_sound into h =
-      let o = open_gate P (nat_lt r (length N.theory.rules)) (off_gate (outside_is_off N b f r)) (through s k (filter b.inside (back N Uses r)) ++ []) h in
-      let lt : r < length N.theory.rules = ltb-true r (length N.theory.rules) o.0 in (
+      let o = open_gate P (is_rule N r) (off_gate (outside_is_off N b f r)) (through s k (filter b.inside (back N Uses r)) ++ []) h in
+      let lt : HasRule N r = o.0 in (
         lt,
         elim (off_cases P (outside_is_off N b f r) (through s k (filter b.inside (back N Uses r)) ++ []) o.1) [
           | inl some ↦
@@ -295,11 +299,11 @@ module _ (N : NetLists) (numbered : IsNumbered N) (b : Before) (f : Family) (got
 -- the same from a meaning, where the marks outside are right
 module _ (N : NetLists) (numbered : IsNumbered N) (b : Before) (f : Family) (outside : IsExactOutside N b f) (P : ℕ → Type 0) (s k : ℕ) (small : k < s) (r : ℕ) where
   pub on_passes : (got : Tagged → Type 0) → ((y : Tagged) → got y → Follows N.theory y) → IsOnAt N got f r → ((i : ℕ) → b.inside i ≡ true → HasTag N got true f i → P (i * s + k))
-      → Passes P (below r (length N.theory.rules) (on_gate (outside_is_on N b f r))) (through s k (filter b.inside (back N Uses r)) ++ [])
+      → Passes P (at_rule N r (on_gate (outside_is_on N b f r))) (through s k (filter b.inside (back N Uses r)) ++ [])
   on_passes got follows m from =
       let each : (i : ℕ) → 0 < times i (back N Uses r) → HasTag N got true f i =
       λ i n. let c = body_sound N numbered r m.0 i n in (c.1, All-contains (λ x. got (tagged true f x)) (rule_at N r).body (literal_at N i) m.1 c.0) in
-      close_gate P (nat_lt r (length N.theory.rules)) (on_gate (outside_is_on N b f r)) (through s k (filter b.inside (back N Uses r)) ++ []) (lt-ltb r (length N.theory.rules) m.0)
+      close_gate P (is_rule N r) (on_gate (outside_is_on N b f r)) (through s k (filter b.inside (back N Uses r)) ++ []) m.0
       (on_every P (outside_is_on N b f r) (through s k (filter b.inside (back N Uses r)) ++ [])
       (true_all (λ i. b.inside i || b.marked (tag_of true f) i) (back N Uses r)
       (λ i n. elim (known (b.inside i)) [
@@ -314,7 +318,7 @@ module _ (N : NetLists) (numbered : IsNumbered N) (b : Before) (f : Family) (out
       from i (times-filter_true b.inside i (back N Uses r) n) (each i in_body))))
 
   pub off_passes : (got : Tagged → Type 0) → ((y : Tagged) → got y → Follows N.theory y) → IsOffAt N got f r → ((i : ℕ) → b.inside i ≡ true → HasTag N got false f i → P (i * s + k))
-      → Passes P (below r (length N.theory.rules) (off_gate (outside_is_off N b f r))) (through s k (filter b.inside (back N Uses r)) ++ [])
+      → Passes P (at_rule N r (off_gate (outside_is_off N b f r))) (through s k (filter b.inside (back N Uses r)) ++ [])
   off_passes got follows m from =
       let there = body_in N numbered r m.0 m.1.1 (m.1.0, m.1.2, m.1.3) in
       let i : ℕ = number N m.1.1 in
@@ -322,7 +326,7 @@ module _ (N : NetLists) (numbered : IsNumbered N) (b : Before) (f : Family) (out
       let in_body : 0 < times (number N m.1.1) (back N Uses r) =
       subst (λ (y : Literal). 0 < times (number N y) (back N Uses r)) m.1.3 (body_complete N numbered r m.0 m.1.0 m.1.1 m.1.2) in
       let g : got (tagged false f (literal_at N (number N m.1.1))) = subst (λ (y : Literal). got (tagged false f y)) (sym (number_finds N numbered m.1.1 there)) m.1.4 in
-      close_gate P (nat_lt r (length N.theory.rules)) (off_gate (outside_is_off N b f r)) (through s k (filter b.inside (back N Uses r)) ++ []) (lt-ltb r (length N.theory.rules) m.0)
+      close_gate P (is_rule N r) (off_gate (outside_is_off N b f r)) (through s k (filter b.inside (back N Uses r)) ++ []) m.0
       (elim (known (b.inside (number N m.1.1))) [
         | inl here ↦
             off_either P (outside_is_off N b f r) (through s k (filter b.inside (back N Uses r)) ++ [])

@@ -2,7 +2,7 @@
 use Rattle.std.proofs.Common.{◌≡◌, ℕ, zero, suc, ◌+◌, ◌*◌, ◌/◌, ◌%◌, ◌<◌, cond, Bool, List, [], ◌∷◌, ◌++◌, length, take, get_or, sym, subst, ap, refl, ◌∙◌, arith}
 use Rattle.std.specs.List.{fold, flat_map}
 use Rattle.std.proofs.lemmas.Bool.{eq-eqb, ne_eqb}
-use Rattle.dl_net.specs.Numbers.{NetLists, next}
+use Rattle.dl_graph.specs.Numbers.{NetLists, next}
 use Rattle.dl_fill.specs.declared.wire.Wire.{Wire}
 use Rattle.dl_fill.specs.Wires.{through, edges, edges_by}
 use Rattle.std.proofs.lemmas.List.Sums.{fold_more, fold-append}
@@ -10,7 +10,7 @@ use Rattle.std.proofs.lemmas.List.{take_more, take_all}
 use Rattle.std.proofs.lemmas.List.Concat.{flat_map-cons}
 use Rattle.std.proofs.lemmas.Grind.{flat_map-append}
 use Rattle.std.proofs.lemmas.List.{append-nil}
-use Rattle.dl_net.specs.Counting.{times}
+use Rattle.dl_graph.specs.Counting.{times}
 use Rattle.dl_fill.specs.Counters.{CounterLists, hit}
 use Rattle.dl_fill.proofs.Times.{times-append, times-get_or}
 

@@ -2,8 +2,8 @@
 use Rattle.std.proofs.Common.{◌≡◌, ℕ, ◌-◌, ◌/◌, ◌%◌, ◌<◌, ◌≤◌, Bool, true, List, [], ◌∷◌, ◌++◌, length, take, get_or, sym, subst, ap, refl, ◌∙◌, arith, append_assoc, length-append}
 use Rattle.std.proofs.lemmas.List.{take_at}
 use Rattle.std.proofs.lemmas.List.{get_or-append_right}
-use Rattle.dl_net.specs.Counting.{times}
-use Rattle.dl_net.specs.Numbers.{NetLists}
+use Rattle.dl_graph.specs.Counting.{times}
+use Rattle.dl_graph.specs.Numbers.{NetLists}
 use Rattle.dl_fill.specs.Counters.{CounterLists}
 use Rattle.dl_fill.specs.declared.wire.Wire.{Wire}
 use Rattle.dl_fill.specs.declared.wire.Gate.{Gate}
@@ -16,7 +16,7 @@ use Rattle.dl_fill.specs.Passing.{Passing, IsOrdered}
 use Rattle.dl_fill.specs.Before.{before_of, is_inside}
 use Rattle.dl_fill.specs.Prepared.{is_touched, touched_gate}
 use Rattle.dl_marks.specs.Marks.{Marking}
-use Rattle.dl_net.specs.Region.{Numbers}
+use Rattle.dl_graph.specs.Region.{Numbers}
 use Rattle.dl_fill.proofs.Exact.{touched_literal}
 use Rattle.dl_fill.proofs.Gating.{open_gate}
 use Rattle.dl_fill.proofs.Tables.{live_here}

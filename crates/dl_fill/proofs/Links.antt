@@ -1,5 +1,5 @@
 -- The links of a numbered theory: turned round, and in the theory's own terms.
-use Rattle.std.proofs.Common.{◌≡◌, ℕ, zero, suc, ◌+◌, ◌<◌, ◌≤◌, Bool, true, false, cond, List, [], ◌∷◌, length, map, get_or, inl, inr, sym, subst, ap, refl, ◌∙◌, arith, true≢false}
+use Rattle.std.proofs.Common.{◌≡◌, ℕ, zero, suc, ◌+◌, ◌<◌, Bool, true, false, None, cond, List, [], ◌∷◌, length, map, get_or, inl, inr, sym, subst, ap, refl, ◌∙◌, arith, true≢false}
 use Rattle.std.specs.Prelude.{Contains, IsTrue, ◌&&◌}
 use Rattle.std.specs.List.{flat_map}
 use Rattle.std.specs.Str.{bytes_eq}
@@ -8,7 +8,6 @@ use Rattle.std.proofs.lemmas.List.Concat.{flat_map-cons}
 use Rattle.std.proofs.lemmas.Bool.{cases_eq, cases_lt}
 use Rattle.std.proofs.lemmas.Map.Made.{is_member-Decides}
 use Rattle.std.proofs.lemmas.List.Sums.{passes_at_first, fails_before_first}
-use Rattle.std.proofs.lemmas.List.Elements.{Contains-get_or}
 use Rattle.dl_lit.specs.declared.literal.Literal.{Literal}
 use Rattle.dl_lit.specs.Literal.{complement, literal_eq}
 use Rattle.dl_lit.specs.Order.{literal_eq-Decides}
@@ -20,13 +19,14 @@ use Rattle.dl_base.proofs.Members.{only}
 use Rattle.dl_fill.specs.Rivals.{Defending, Countering}
 use Rattle.dl_fill.proofs.Attacks.{attack_turns}
 use Rattle.dl_fill.proofs.Once.{once_sound, once_complete}
-use Rattle.dl_net.specs.Counting.{times}
+use Rattle.dl_graph.specs.Counting.{times}
 use Rattle.dl_fill.proofs.Times.{times-append, times_cons_same, times_cons_other, eqb_swaps}
-use Rattle.dl_net.specs.Rows.{row, places}
-use Rattle.dl_net.specs.Numbers.{NetLists, IsNumbered, no_literal, no_rule, literal_at, rule_at, number, body_row, backs_row, proves_row, attackers_row, opposes_row, mark_row, labelled, lowers_row, uppers_row, next, back, heads, head_row}
-use Rattle.dl_net.specs.declared.link.Link.{Link}
-use Rattle.dl_net.specs.declared.link.Link.TheVariants.{Same, Uses, Backs, Proves, Opposes as Opposing, Defends, Counters}
-use Rattle.dl_fill.proofs.Rows.{places_turned, row_inside, row_outside}
+use Rattle.dl_graph.specs.Rows.{row, places}
+use Rattle.dl_graph.specs.Numbers.{NetLists, IsNumbered, HasRule, no_literal, literal_at, rule_at, of_rule, number, body_row, backs_row, proves_row, attackers_row, opposes_row, mark_row, labelled, lowers_row, uppers_row, next, back, heads, head_row}
+use Rattle.dl_graph.specs.declared.link.Link.{Link}
+use Rattle.dl_graph.specs.declared.link.Link.TheVariants.{Same, Uses, Backs, Proves, Opposes as Opposing, Defends, Counters}
+use Rattle.dl_graph.proofs.Slots.{has_rule, rule_in, row_of, row_none, row_has}
+use Rattle.dl_fill.proofs.Rows.{places_turned}
 
 abbrev one : Bool → ℕ
 one b = cond b 1 0
@@ -47,49 +47,49 @@ mark_one false = refl
 
 module _ (N : NetLists) where
   -- whether the rule at a place has the label and passes the test
-  labelled_at : (label : List ℕ) (p : Rule → Bool) (j : ℕ) → j < length N.theory.rules
-      → times j (labelled N.theory label p) ≡ one (bytes_eq (rule_at N j).label label && p (rule_at N j))
+  labelled_at : (label : List ℕ) (p : Rule → Bool) (j : ℕ) → HasRule N j
+      → times j (labelled N label p) ≡ one (bytes_eq (rule_at N j).label label && p (rule_at N j))
   labelled_at label p j lt =
-      places_turned (λ r. mark_row (bytes_eq r.label label && p r)) N.theory.rules j 0
-      ∙ ap (times 0) (row_inside (λ r. mark_row (bytes_eq r.label label && p r)) N.theory.rules j no_rule lt)
+      places_turned (of_rule (λ r. mark_row (bytes_eq r.label label && p r))) N.rules j 0
+      ∙ ap (times 0) (row_of N (λ r. mark_row (bytes_eq r.label label && p r)) j lt)
       ∙ mark_one (bytes_eq (rule_at N j).label label && p (rule_at N j))
 
-  labelled_past : (label : List ℕ) (p : Rule → Bool) (j : ℕ) → length N.theory.rules ≤ j → times j (labelled N.theory label p) ≡ 0
+  labelled_past : (label : List ℕ) (p : Rule → Bool) (j : ℕ) → get_or N.rules j None ≡ None → times j (labelled N label p) ≡ 0
   labelled_past label p j ge =
-      places_turned (λ r. mark_row (bytes_eq r.label label && p r)) N.theory.rules j 0
-      ∙ ap (times 0) (row_outside (λ r. mark_row (bytes_eq r.label label && p r)) N.theory.rules j ge)
+      places_turned (of_rule (λ r. mark_row (bytes_eq r.label label && p r))) N.rules j 0
+      ∙ ap (times 0) (row_none N (λ r. mark_row (bytes_eq r.label label && p r)) j ge)
 
   -- the rules of one pair that a rule is superior to, and those that are superior to it
   abbrev lower_of : Rule → Pair → List ℕ
-  lower_of t p = cond (bytes_eq p.upper t.label) (labelled N.theory p.lower (test.is_opposing N.theory t.head)) []
+  lower_of t p = cond (bytes_eq p.upper t.label) (labelled N p.lower (test.is_opposing N.theory t.head)) []
 
   abbrev upper_of : (Rule → Bool) → Rule → Pair → List ℕ
-  upper_of q u p = cond (bytes_eq p.lower u.label) (labelled N.theory p.upper (λ t. test.is_opposing N.theory t.head u && q t)) []
+  upper_of q u p = cond (bytes_eq p.lower u.label) (labelled N p.upper (λ t. test.is_opposing N.theory t.head u && q t)) []
 
   none_if : (b : Bool) (j : ℕ) (xs : List ℕ) → times j xs ≡ 0 → times j (cond b xs []) ≡ 0
   none_if true j xs e = e
   none_if false j xs e = refl
 
-  lowers_past : (t : Rule) (j : ℕ) → length N.theory.rules ≤ j → (ps : List Pair) → times j (flat_map (lower_of t) ps) ≡ 0
+  lowers_past : (t : Rule) (j : ℕ) → get_or N.rules j None ≡ None → (ps : List Pair) → times j (flat_map (lower_of t) ps) ≡ 0
   lowers_past t j ge [] = refl
   lowers_past t j ge (p ∷ ps) =
       ap (times j) (flat_map-cons (lower_of t) p ps)
       ∙ omega (
         arith,
         times-append j (lower_of t p) (flat_map (lower_of t) ps),
-        none_if (bytes_eq p.upper t.label) j (labelled N.theory p.lower (test.is_opposing N.theory t.head))
+        none_if (bytes_eq p.upper t.label) j (labelled N p.lower (test.is_opposing N.theory t.head))
             (labelled_past p.lower (test.is_opposing N.theory t.head) j ge),
         lowers_past t j ge ps,
       )
 
-  uppers_past : (q : Rule → Bool) (u : Rule) (j : ℕ) → length N.theory.rules ≤ j → (ps : List Pair) → times j (flat_map (upper_of q u) ps) ≡ 0
+  uppers_past : (q : Rule → Bool) (u : Rule) (j : ℕ) → get_or N.rules j None ≡ None → (ps : List Pair) → times j (flat_map (upper_of q u) ps) ≡ 0
   uppers_past q u j ge [] = refl
   uppers_past q u j ge (p ∷ ps) =
       ap (times j) (flat_map-cons (upper_of q u) p ps)
       ∙ omega (
         arith,
         times-append j (upper_of q u p) (flat_map (upper_of q u) ps),
-        none_if (bytes_eq p.lower u.label) j (labelled N.theory p.upper (λ t. test.is_opposing N.theory t.head u && q t))
+        none_if (bytes_eq p.lower u.label) j (labelled N p.upper (λ t. test.is_opposing N.theory t.head u && q t))
             (labelled_past p.upper (λ t. test.is_opposing N.theory t.head u && q t) j ge),
         uppers_past q u j ge ps,
       )
@@ -113,17 +113,17 @@ module _ (N : NetLists) where
   weightless false true o false e = refl
   weightless x false o false e = refl
 
-  module _ (q : Rule → Bool) (t u : ℕ) (lt : t < length N.theory.rules) (lu : u < length N.theory.rules) where
+  module _ (q : Rule → Bool) (t u : ℕ) (lt : HasRule N t) (lu : HasRule N u) where
     upper_count : (p : Pair) → times t (upper_of q (rule_at N u) p)
         ≡ cond (bytes_eq p.lower (rule_at N u).label) (one (bytes_eq (rule_at N t).label p.upper && (test.is_opposing N.theory (rule_at N t).head (rule_at N u) && q (rule_at N t)))) 0
     upper_count p =
-        count_if (bytes_eq p.lower (rule_at N u).label) t _ (labelled N.theory p.upper (λ t. test.is_opposing N.theory t.head (rule_at N u) && q t))
+        count_if (bytes_eq p.lower (rule_at N u).label) t _ (labelled N p.upper (λ t. test.is_opposing N.theory t.head (rule_at N u) && q t))
         (labelled_at p.upper (λ t. test.is_opposing N.theory t.head (rule_at N u) && q t) t lt)
 
     lower_count : (p : Pair) → times u (lower_of (rule_at N t) p)
         ≡ cond (bytes_eq (rule_at N t).label p.upper) (one (bytes_eq p.lower (rule_at N u).label && test.is_opposing N.theory (rule_at N t).head (rule_at N u))) 0
     lower_count p =
-        count_if (bytes_eq p.upper (rule_at N t).label) u _ (labelled N.theory p.lower (test.is_opposing N.theory (rule_at N t).head))
+        count_if (bytes_eq p.upper (rule_at N t).label) u _ (labelled N p.lower (test.is_opposing N.theory (rule_at N t).head))
         (labelled_at p.lower (test.is_opposing N.theory (rule_at N t).head) u lu)
         ∙ ap (λ (b : Bool). cond b (one (bytes_eq (rule_at N u).label p.lower && test.is_opposing N.theory (rule_at N t).head (rule_at N u))) 0)
         (bytes_turned p.upper (rule_at N t).label)
@@ -158,40 +158,40 @@ module _ (N : NetLists) where
 
   -- the rules below those that pass a test, turned round
   lowers_turned : (q : Rule → Bool) (t u : ℕ)
-      → times u (row (λ r. cond (q r) (lowers_row N r) []) N.theory.rules t) ≡ times t (row (uppers_row N q) N.theory.rules u)
+      → times u (row (of_rule (λ r. cond (q r) (lowers_row N r) [])) N.rules t) ≡ times t (row (of_rule (uppers_row N q)) N.rules u)
   lowers_turned q t u =
-      elim (cases_lt t (length N.theory.rules)) [
-        | inl lt ↦ ap (times u) (row_inside (λ r. cond (q r) (lowers_row N r) []) N.theory.rules t no_rule lt) ∙ (elim (cases_lt u (length N.theory.rules)) [
+      elim (has_rule N t) [
+        | inl lt ↦ ap (times u) (row_of N (λ r. cond (q r) (lowers_row N r) []) t lt) ∙ (elim (has_rule N u) [
           | inl lu ↦
               (elim (q (rule_at N t)) as (λ b. q (rule_at N t) ≡ b → times u (cond b (lowers_row N (rule_at N t)) []) ≡ times t (uppers_row N q (rule_at N u))) [
                 | true ↦ λ e. pairs_turned q t u lt lu e N.theory.pairs
                 | false ↦ λ e. sym (none_above q t u lt lu e N.theory.pairs)
               ]) refl
-              ∙ sym (ap (times t) (row_inside (uppers_row N q) N.theory.rules u no_rule lu))
+              ∙ sym (ap (times t) (row_of N (uppers_row N q) u lu))
           | inr gu ↦
               none_if (q (rule_at N t)) u (lowers_row N (rule_at N t)) (lowers_past (rule_at N t) u gu N.theory.pairs)
-              ∙ sym (ap (times t) (row_outside (uppers_row N q) N.theory.rules u gu))
+              ∙ sym (ap (times t) (row_none N (uppers_row N q) u gu))
         ])
-        | inr gt ↦ ap (times u) (row_outside (λ r. cond (q r) (lowers_row N r) []) N.theory.rules t gt) ∙ (elim (cases_lt u (length N.theory.rules)) [
-          | inl lu ↦ sym (ap (times t) (row_inside (uppers_row N q) N.theory.rules u no_rule lu) ∙ uppers_past q (rule_at N u) t gt N.theory.pairs)
-          | inr gu ↦ sym (ap (times t) (row_outside (uppers_row N q) N.theory.rules u gu))
+        | inr gt ↦ ap (times u) (row_none N (λ r. cond (q r) (lowers_row N r) []) t gt) ∙ (elim (has_rule N u) [
+          | inl lu ↦ sym (ap (times t) (row_of N (uppers_row N q) u lu) ∙ uppers_past q (rule_at N u) t gt N.theory.pairs)
+          | inr gu ↦ sym (ap (times t) (row_none N (uppers_row N q) u gu))
         ])
       ]
 
 -- a link, turned round
 pub links_turned : (N : NetLists) (link : Link) (x y : ℕ) → times y (next N link x) ≡ times x (back N link y)
 links_turned N Same x y = ap (λ b. one b + 0) (eqb_swaps y x)
-links_turned N Uses x y = places_turned (body_row N) N.theory.rules y x
-links_turned N Backs x y = sym (places_turned (backs_row N) N.theory.rules x y)
-links_turned N Proves x y = sym (places_turned (proves_row N) N.theory.rules x y)
-links_turned N Opposing x y = sym (places_turned (opposes_row N) N.theory.rules x y)
+links_turned N Uses x y = places_turned (of_rule (body_row N)) N.rules y x
+links_turned N Backs x y = sym (places_turned (of_rule (backs_row N)) N.rules x y)
+links_turned N Proves x y = sym (places_turned (of_rule (proves_row N)) N.rules x y)
+links_turned N Opposing x y = sym (places_turned (of_rule (opposes_row N)) N.rules x y)
 links_turned N Defends x y = lowers_turned N (λ t. can_support t.kind) x y
 links_turned N Counters x y = lowers_turned N (λ t. true) x y
 
 -- the list has exactly the numbers of the rules with R
 pub record IsListing (N : NetLists) (R : Rule → Type 0) (xs : List ℕ) : Type 0 where
-  pub sound : (r : ℕ) → 0 < times r xs → (r < length N.theory.rules) × R (rule_at N r)
-  pub complete : (r : ℕ) → r < length N.theory.rules → R (rule_at N r) → 0 < times r xs
+  pub sound : (r : ℕ) → 0 < times r xs → HasRule N r × R (rule_at N r)
+  pub complete : (r : ℕ) → HasRule N r → R (rule_at N r) → 0 < times r xs
 
 pub single : (x y : ℕ) → 0 < times x (y ∷ []) → x ≡ y
 single x y h = elim (cases_eq x y) [ inl e ↦ e | inr n ↦ absurd (omega (arith, times_cons_other x y [] n)) ]
@@ -221,22 +221,18 @@ module _ (N : NetLists) (numbered : IsNumbered N) where
 
   -- the places of the rules in whose rows q stands
   listing : (f : Rule → List ℕ) (R : Rule → Type 0) (q : ℕ)
-      → ((r : ℕ) → r < length N.theory.rules → 0 < times q (f (rule_at N r)) → R (rule_at N r))
-      → ((r : ℕ) → r < length N.theory.rules → R (rule_at N r) → 0 < times q (f (rule_at N r)))
-      → IsListing N R (places f N.theory.rules q)
+      → ((r : ℕ) → HasRule N r → 0 < times q (f (rule_at N r)) → R (rule_at N r))
+      → ((r : ℕ) → HasRule N r → R (rule_at N r) → 0 < times q (f (rule_at N r)))
+      → IsListing N R (places (of_rule f) N.rules q)
   listing f R q to from = record {
-    sound = λ r m. elim (cases_lt r (length N.theory.rules)) [
-      | inl lt ↦ (lt, to r lt (omega (arith, m, places_turned f N.theory.rules r q, ap (times q) (row_inside f N.theory.rules r no_rule lt))))
-      | inr ge ↦ absurd (omega (arith, m, places_turned f N.theory.rules r q, ap (times q) (row_outside f N.theory.rules r ge)))
-    ];
-    complete = λ r lt h. omega (arith, from r lt h, places_turned f N.theory.rules r q, ap (times q) (row_inside f N.theory.rules r no_rule lt));
+    sound = λ r m.
+        let at = row_has N f r q (omega (arith, m, places_turned (of_rule f) N.rules r q)) in
+        (at.0, to r at.0 at.1);
+    complete = λ r lt h. omega (arith, from r lt h, places_turned (of_rule f) N.rules r q, ap (times q) (row_of N f r lt));
   }
 
-  rule_in : (r : ℕ) → r < length N.theory.rules → Contains N.theory.rules (rule_at N r)
-  rule_in r lt = Contains-get_or N.theory.rules r no_rule lt
-
-  pub head_in : (r : ℕ) → r < length N.theory.rules → Contains N.names (rule_at N r).head
-  head_in r lt = numbered.mentioned (rule_at N r).head (let m = rule_in r lt in inl (inr (m.0, rule_at N r, m.1, m.2, inl refl)))
+  pub head_in : (r : ℕ) → HasRule N r → Contains N.names (rule_at N r).head
+  head_in r lt = numbered.mentioned (rule_at N r).head (let m = rule_in N numbered r lt in inl (inr (m.0, rule_at N r, m.1, m.2, inl refl)))
 
   pub kind_row : (b : Bool) (q : ℕ) (x : ℕ) → 0 < times q (cond b (x ∷ []) []) → (b ≡ true) × (q ≡ x)
   kind_row true q x h = (refl, single q x h)
@@ -291,23 +287,23 @@ module _ (N : NetLists) (numbered : IsNumbered N) where
         | inr n ↦ omega (arith, times_cons_other (number N (get_or xs k d)) (number N x) (map (number N) xs) n, numbers_complete xs k d (omega arith))
       ]
 
-  pub body_in : (r : ℕ) → r < length N.theory.rules → (b : Literal) → Contains (rule_at N r).body b → Contains N.names b
-  body_in r lt b m = let n = rule_in r lt in numbered.mentioned b (inl (inr (n.0, rule_at N r, n.1, n.2, inr m)))
+  pub body_in : (r : ℕ) → HasRule N r → (b : Literal) → Contains (rule_at N r).body b → Contains N.names b
+  body_in r lt b m = let n = rule_in N numbered r lt in numbered.mentioned b (inl (inr (n.0, rule_at N r, n.1, n.2, inr m)))
 
   -- the numbers of a body stand for its literals
-  pub body_sound : (r : ℕ) → r < length N.theory.rules → (b : ℕ) → 0 < times b (back N Uses r) → Contains (rule_at N r).body (literal_at N b) × (b < length N.names)
+  pub body_sound : (r : ℕ) → HasRule N r → (b : ℕ) → 0 < times b (back N Uses r) → Contains (rule_at N r).body (literal_at N b) × (b < length N.names)
   body_sound r lt b h =
       let s =
       numbers_sound (rule_at N r).body b
-      (once_sound b (map (number N) (rule_at N r).body) (subst (λ (xs : List ℕ). 0 < times b xs) (row_inside (body_row N) N.theory.rules r no_rule lt) h)) in
+      (once_sound b (map (number N) (rule_at N r).body) (subst (λ (xs : List ℕ). 0 < times b xs) (row_of N (body_row N) r lt) h)) in
       let inside = body_in r lt s.0 s.1 in
       let e : s.0 ≡ literal_at N b = sym (number_finds s.0 inside) ∙ ap (literal_at N) s.2 in
       (subst (Contains (rule_at N r).body) e s.1, subst (λ (n : ℕ). n < length N.names) s.2 (number_inside s.0 inside))
 
-  pub body_complete : (r : ℕ) → r < length N.theory.rules → (k : ℕ) (d : Literal) → k < length (rule_at N r).body
+  pub body_complete : (r : ℕ) → HasRule N r → (k : ℕ) (d : Literal) → k < length (rule_at N r).body
       → 0 < times (number N (get_or (rule_at N r).body k d)) (back N Uses r)
   body_complete r lt k d h =
-      subst (λ (xs : List ℕ). 0 < times (number N (get_or (rule_at N r).body k d)) xs) (sym (row_inside (body_row N) N.theory.rules r no_rule lt))
+      subst (λ (xs : List ℕ). 0 < times (number N (get_or (rule_at N r).body k d)) xs) (sym (row_of N (body_row N) r lt))
       (once_complete (number N (get_or (rule_at N r).body k d)) (map (number N) (rule_at N r).body) (numbers_complete (rule_at N r).body k d h))
 
   pub opposes_listing : (q : ℕ) → q < length N.names → IsListing N (Opposes N.theory (literal_at N q)) (back N Opposing q)
@@ -323,7 +319,7 @@ module _ (N : NetLists) (numbered : IsNumbered N) where
       (numbers_complete (attackers N.theory (rule_at N r).head) m.0 (literal_at N q) m.1))
 
   -- a pair above u
-  above_sound : (p : Rule → Bool) (u : Rule) (r : ℕ) (ps : List Pair) → r < length N.theory.rules → 0 < times r (flat_map (upper_of N p u) ps)
+  above_sound : (p : Rule → Bool) (u : Rule) (r : ℕ) (ps : List Pair) → HasRule N r → 0 < times r (flat_map (upper_of N p u) ps)
       → Contains ps (record { upper = (rule_at N r).label; lower = u.label }) × (test.is_opposing N.theory (rule_at N r).head u ≡ true) × (p (rule_at N r) ≡ true)
   above_sound p u r [] lt h = absurd (omega arith)
   above_sound p u r (pair ∷ ps) lt h =
@@ -334,7 +330,7 @@ module _ (N : NetLists) (numbered : IsNumbered N) where
         | inr some ↦
             let c = counted (bytes_eq pair.lower u.label) (bytes_eq (rule_at N r).label pair.upper) (test.is_opposing N.theory (rule_at N r).head u) (p (rule_at N r))
             (subst (λ (n : ℕ). 0 < n)
-            (count_if N (bytes_eq pair.lower u.label) r _ (labelled N.theory pair.upper (λ t. test.is_opposing N.theory t.head u && p t))
+            (count_if N (bytes_eq pair.lower u.label) r _ (labelled N pair.upper (λ t. test.is_opposing N.theory t.head u && p t))
             (labelled_at N pair.upper (λ t. test.is_opposing N.theory t.head u && p t) r lt)) (omega arith)) in
             let lower : pair.lower ≡ u.label = (bytes_eq-Decides pair.lower u.label).0 c.0 in
             let upper : pair.upper ≡ (rule_at N r).label = sym ((bytes_eq-Decides (rule_at N r).label pair.upper).0 c.1) in
@@ -348,7 +344,7 @@ module _ (N : NetLists) (numbered : IsNumbered N) where
       counted true false o q h = absurd (omega arith)
       counted false x o q h = absurd (omega arith)
 
-  above_complete : (p : Rule → Bool) (u : Rule) (r : ℕ) (ps : List Pair) (k : ℕ) (d : Pair) → r < length N.theory.rules → k < length ps
+  above_complete : (p : Rule → Bool) (u : Rule) (r : ℕ) (ps : List Pair) (k : ℕ) (d : Pair) → HasRule N r → k < length ps
       → get_or ps k d ≡ record { upper = (rule_at N r).label; lower = u.label }
       → test.is_opposing N.theory (rule_at N r).head u ≡ true → p (rule_at N r) ≡ true → 0 < times r (flat_map (upper_of N p u) ps)
   above_complete p u r [] k d lt h e o q = absurd (omega arith)
@@ -359,7 +355,7 @@ module _ (N : NetLists) (numbered : IsNumbered N) where
         arith,
         ap (times r) (flat_map-cons (upper_of N p u) pair ps),
         times-append r (upper_of N p u pair) (flat_map (upper_of N p u) ps),
-        count_if N (bytes_eq pair.lower u.label) r _ (labelled N.theory pair.upper (λ t. test.is_opposing N.theory t.head u && p t))
+        count_if N (bytes_eq pair.lower u.label) r _ (labelled N pair.upper (λ t. test.is_opposing N.theory t.head u && p t))
             (labelled_at N pair.upper (λ t. test.is_opposing N.theory t.head u && p t) r lt),
         counts (bytes_eq pair.lower u.label) (bytes_eq (rule_at N r).label pair.upper) (test.is_opposing N.theory (rule_at N r).head u) (p (rule_at N r)) lower upper o q,
       )
@@ -379,13 +375,13 @@ module _ (N : NetLists) (numbered : IsNumbered N) where
       )
 
   -- the rules above u, for what the head of u attacks, that pass a test
-  above_listing : (p : Rule → Bool) (u : ℕ) → u < length N.theory.rules
-      → IsListing N (λ t. Beats N.theory t (rule_at N u) × Opposes N.theory t.head (rule_at N u) × IsTrue (p t)) (row (uppers_row N p) N.theory.rules u)
+  above_listing : (p : Rule → Bool) (u : ℕ) → HasRule N u
+      → IsListing N (λ t. Beats N.theory t (rule_at N u) × Opposes N.theory t.head (rule_at N u) × IsTrue (p t)) (row (of_rule (uppers_row N p)) N.rules u)
   above_listing p u inside =
       subst (IsListing N (λ t. Beats N.theory t (rule_at N u) × Opposes N.theory t.head (rule_at N u) × IsTrue (p t)))
-      (sym (row_inside (uppers_row N p) N.theory.rules u no_rule inside))
+      (sym (row_of N (uppers_row N p) u inside))
       (record {
-        sound = λ r m. elim (cases_lt r (length N.theory.rules)) [
+        sound = λ r m. elim (has_rule N r) [
           | inl lt ↦
               let s = above_sound p (rule_at N u) r N.theory.pairs lt m in
               (lt, (s.0, (is_member-Decides literal_eq-Decides (attackers N.theory (rule_at N r).head) (rule_at N u).head).0 s.1, s.2))
@@ -397,11 +393,11 @@ module _ (N : NetLists) (numbered : IsNumbered N) where
       })
 
   -- the rules that defend their head against u
-  pub defends_listing : (u : ℕ) → u < length N.theory.rules → IsListing N (Defending N.theory (rule_at N u)) (back N Defends u)
+  pub defends_listing : (u : ℕ) → HasRule N u → IsListing N (Defending N.theory (rule_at N u)) (back N Defends u)
   defends_listing u inside = above_listing (λ t. can_support t.kind) u inside
 
   -- the rules that counter t
-  pub counters_listing : (t : ℕ) → t < length N.theory.rules → IsListing N (Countering N.theory (rule_at N t)) (back N Counters t)
+  pub counters_listing : (t : ℕ) → HasRule N t → IsListing N (Countering N.theory (rule_at N t)) (back N Counters t)
   counters_listing t inside =
       let l = above_listing (λ u. true) t inside in
       record {

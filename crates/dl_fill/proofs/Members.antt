@@ -2,12 +2,13 @@
 use Rattle.std.proofs.Common.{◌≡◌, ℕ, ◌+◌, ◌*◌, ◌/◌, ◌%◌, ◌<◌, List, [], ◌++◌, get_or, inl, inr, ◌⊎◌, sym, subst, ap, ◌∙◌, arith}
 use Rattle.std.specs.Prelude.{All, Any}
 use Rattle.std.proofs.lemmas.Bool.{cases_eq}
-use Rattle.std.proofs.lemmas.List.Elements.{Contains-get_or}
+use Rattle.std.proofs.lemmas.List.Elements.{All-contains}
 use Rattle.std.proofs.lemmas.List.{get_or_default}
 use Rattle.dl_theory.specs.declared.rule.Rule.{Rule}
-use Rattle.dl_net.specs.Counting.{times}
+use Rattle.dl_graph.specs.Counting.{times}
 use Rattle.dl_fill.proofs.Times.{times-append}
-use Rattle.dl_net.specs.Numbers.{NetLists, rule_at, no_rule}
+use Rattle.dl_graph.specs.Numbers.{NetLists, IsNumbered, rule_at}
+use Rattle.dl_graph.proofs.Slots.{rule_in, number_of_rule}
 use Rattle.dl_fill.proofs.Links.{IsListing}
 use Rattle.dl_fill.specs.Wires.{through}
 use Rattle.dl_fill.proofs.Nodes.{node_parts, times_through, times_through_same, times_through_other}
@@ -80,22 +81,24 @@ module _ (P : ℕ → Type 0) (s k l : ℕ) (small : k < s) (small' : l < s) (xs
   pub either_second : (i : ℕ) → 0 < times i ys → P (i * s + l) → (x : ℕ) × (0 < times x both) × P x
   either_second i m p = (i * s + l, omega (arith, split (i * s + l), through_has s l i ys small' m), p)
 
-module _ (N : NetLists) (R : Rule → Type 0) (xs : List ℕ) (listing : IsListing N R xs) (Q : Rule → Type 0) where
+module _ (N : NetLists) (numbered : IsNumbered N) (R : Rule → Type 0) (xs : List ℕ) (listing : IsListing N R xs) (Q : Rule → Type 0) where
   pub any_from : (r : ℕ) → 0 < times r xs → Q (rule_at N r) → Any (λ r. R r × Q r) N.theory.rules
   any_from r m q =
       let s = listing.sound r m in
-      let c = Contains-get_or N.theory.rules r no_rule s.0 in
+      let c = rule_in N numbered r s.0 in
       (c.0, rule_at N r, c.1, c.2, (s.1, q))
 
   pub any_to : Any (λ r. R r × Q r) N.theory.rules → (r : ℕ) × (0 < times r xs) × Q (rule_at N r)
   any_to h =
-      let e : h.1 ≡ rule_at N h.0 = sym h.3 ∙ get_or_default N.theory.rules h.0 h.1 no_rule h.2 in
-      (h.0, listing.complete h.0 h.2 (subst R e h.4.0), subst Q e h.4.1)
+      let at = number_of_rule N numbered h.1 (h.0, h.2, h.3) in
+      (at.0, listing.complete at.0 at.1 (subst R (sym at.2) h.4.0), subst Q (sym at.2) h.4.1)
 
   pub all_from : ((r : ℕ) → 0 < times r xs → Q (rule_at N r)) → All (λ r. R r → Q r) N.theory.rules
   all_from h k d lt holds =
-      let e : get_or N.theory.rules k d ≡ rule_at N k = get_or_default N.theory.rules k d no_rule lt in
-      subst Q (sym e) (h k (listing.complete k lt (subst R e holds)))
+      let at = number_of_rule N numbered (get_or N.theory.rules k d) (k, lt, get_or_default N.theory.rules k (get_or N.theory.rules k d) d lt) in
+      subst Q at.2 (h at.0 (listing.complete at.0 at.1 (subst R (sym at.2) holds)))
 
   pub all_to : All (λ r. R r → Q r) N.theory.rules → (r : ℕ) → 0 < times r xs → Q (rule_at N r)
-  all_to h r m = let s = listing.sound r m in h r no_rule s.0 s.1
+  all_to h r m =
+      let s = listing.sound r m in
+      All-contains (λ r. R r → Q r) N.theory.rules (rule_at N r) h (rule_in N numbered r s.0) s.1

@@ -4,19 +4,19 @@ use Rattle.std.specs.List.{flat_map}
 use Rattle.std.proofs.lemmas.Bool.{eqb-true}
 use Rattle.std.proofs.lemmas.Bool.Decides.{eqb_tells}
 use Rattle.std.proofs.lemmas.List.Concat.{flat_map-cons}
-use Rattle.dl_net.specs.Counting.{times}
+use Rattle.dl_graph.specs.Counting.{times}
 use Rattle.dl_fill.specs.Counting.{overlap}
 use Rattle.dl_fill.specs.Counters.{CounterLists}
 use Rattle.dl_fill.proofs.Times.{times-take, times-take_more, times-append, times_cons_same, overlap-nil_right, overlap-cons_right, overlap_all, overlap_full, overlap_some, overlap_has}
 use Rattle.dl_fill.proofs.Engine.{IsClosedFrom, IsSettled}
 use Rattle.dl_fill.proofs.Nodes.{times_through_same, times_through_other}
-use Rattle.dl_net.specs.Numbers.{NetLists, next, back}
+use Rattle.dl_graph.specs.Numbers.{NetLists, next, back}
 use Rattle.dl_fill.proofs.Links.{links_turned}
 use Rattle.dl_fill.specs.declared.wire.Wire.{Wire}
 use Rattle.dl_fill.specs.declared.wire.Gate.{Gate}
 use Rattle.dl_fill.specs.declared.wire.Gate.TheVariants.{Every, Either, Now, Never}
-use Rattle.dl_net.specs.declared.link.Link.{Link}
-use Rattle.dl_net.specs.declared.link.Link.TheVariants.{Same, Uses, Backs, Proves, Opposes, Defends, Counters}
+use Rattle.dl_graph.specs.declared.link.Link.{Link}
+use Rattle.dl_graph.specs.declared.link.Link.TheVariants.{Same, Uses, Backs, Proves, Opposes, Defends, Counters}
 use Rattle.dl_fill.proofs.Once.{times-filter_kept}
 use Rattle.dl_fill.specs.Wires.{through, edges_by, edges, inner, inputs_by, inputs, AreKinds, IsLive}
 use Rattle.dl_fill.specs.Gates.{awaited, at_once, Passes}

@@ -2,7 +2,7 @@
 use Rattle.std.proofs.Common.{◌≡◌, ◌≢◌, ℕ, ◌<◌, ◌≤◌, ◌==◌, Bool, true, false, cond, List, [], ◌∷◌, inl, inr, sym, ap, refl, ◌∙◌, arith, true≢false}
 use Rattle.std.specs.Prelude.{not, filter}
 use Rattle.std.proofs.lemmas.Bool.{cases_eq, ne_eqb}
-use Rattle.dl_net.specs.Counting.{times, each_once}
+use Rattle.dl_graph.specs.Counting.{times, each_once}
 use Rattle.dl_fill.proofs.Times.{times_cons_same, times_cons_other}
 
 picked_le : (c : Bool) (b x : ℕ) (fs xs : List ℕ) → times b fs ≤ times b xs → times b (cond c (x ∷ fs) fs) ≤ times b (x ∷ xs)

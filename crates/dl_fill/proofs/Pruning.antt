@@ -3,13 +3,13 @@
 use Rattle.std.proofs.Common.{◌≡◌, ◌≢◌, ℕ, ◌+◌, ◌-◌, ◌/◌, ◌%◌, ◌<◌, ◌≤◌, Bool, true, false, List, [], ◌∷◌, ◌++◌, length, get_or, set, take, drop, reverse, inl, inr, ◌⊎◌, sym, subst, ap, refl, ◌∙◌, arith, append_assoc, length-set, true≢false}
 use Rattle.std.proofs.lemmas.Bool.{cases_eq}
 use Rattle.std.proofs.lemmas.List.{get_or-set_same, get_or-set_other, append-nil, take_more, take_all, drop_more, drop_all, take-append-drop, reverse-append}
-use Rattle.dl_net.specs.Counting.{times}
+use Rattle.dl_graph.specs.Counting.{times}
 use Rattle.dl_fill.specs.declared.wire.Gate.{Gate}
 use Rattle.dl_fill.specs.declared.wire.Gate.TheVariants.{Every, Either, Now, Never}
 use Rattle.dl_fill.specs.declared.needs.Need.{Need}
 use Rattle.dl_fill.specs.declared.needs.Need.TheVariants.{Nothing, Each, One}
 use Rattle.dl_fill.specs.Gates.{Passes}
-use Rattle.dl_net.specs.Numbers.{NetLists}
+use Rattle.dl_graph.specs.Numbers.{NetLists}
 use Rattle.dl_fill.specs.declared.wire.Wire.{Wire}
 use Rattle.dl_fill.specs.Before.{Before}
 use Rattle.dl_fill.specs.Wires.{inputs}

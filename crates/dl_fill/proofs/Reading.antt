@@ -5,7 +5,7 @@ use Rattle.std.specs.List.{list_all, list_any}
 use Rattle.std.proofs.lemmas.Option.{slice_get_within, get_or_from_slice_get}
 use Rattle.std.proofs.lemmas.List.Elements.{Contains-get_or}
 use Rattle.dl_theory.specs.Lists.{attackers}
-use Rattle.dl_net.specs.Numbers.{NetLists, IsNumbered, no_literal, literal_at, attackers_row}
+use Rattle.dl_graph.specs.Numbers.{NetLists, IsNumbered, no_literal, literal_at, attackers_row}
 use Rattle.dl_fill.proofs.Links.{numbers_sound, number_inside, attacker_named}
 use Rattle.dl_fill.proofs.Written.{contains_times}
 

@@ -1,8 +1,8 @@
 -- Turned round, each number stands as often as before.
 use Rattle.std.proofs.Common.{◌≡◌, ◌≢◌, ℕ, zero, suc, ◌+◌, ◌<◌, ◌≤◌, List, [], ◌∷◌, length, get_or, replicate, sym, subst, refl, arith}
-use Rattle.dl_net.specs.Counting.{times}
+use Rattle.dl_graph.specs.Counting.{times}
 use Rattle.dl_fill.proofs.Times.{times-append, times_cons_same, times_cons_other}
-use Rattle.dl_net.specs.Rows.{row, places_from, places}
+use Rattle.dl_graph.specs.Rows.{row, places_from, places}
 
 times-replicate_same : (n k : ℕ) → times k (replicate n k) ≡ n
 times-replicate_same zero k = refl

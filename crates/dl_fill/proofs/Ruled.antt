@@ -5,9 +5,9 @@ use Rattle.std.proofs.lemmas.Bool.{ltb-true, lt-ltb}
 use Rattle.dl_lit.specs.declared.literal.Tagged.{Tagged}
 use Rattle.dl_lit.specs.declared.literal.Literal.{Literal}
 use Rattle.dl_theory.specs.declared.rule.Rule.{Rule}
-use Rattle.dl_net.specs.Counting.{times}
-use Rattle.dl_net.specs.Numbers.{NetLists, IsNumbered, literal_at, rule_at, back}
-use Rattle.dl_net.specs.declared.link.Link.{Link}
+use Rattle.dl_graph.specs.Counting.{times}
+use Rattle.dl_graph.specs.Numbers.{NetLists, IsNumbered, HasRule, literal_at, rule_at, back}
+use Rattle.dl_graph.specs.declared.link.Link.{Link}
 use Rattle.dl_fill.specs.Before.{some_gate, each_gate}
 use Rattle.dl_fill.specs.Wires.{through}
 use Rattle.dl_fill.specs.Gates.{Passes}
@@ -45,7 +45,7 @@ module _ (N : NetLists) (numbered : IsNumbered N) (got : Tagged → Type 0) (P :
     -- C is what the literal's node stands for
     pub concluded_sound : (C : Type 0) → (q < length N.names → surely ≡ true → C)
         → (Any (λ r. R (literal_at N q) r × Q r) N.theory.rules → C)
-        → ((i : ℕ) → P (i * s + k) → (i < length N.theory.rules) × Q (rule_at N i))
+        → ((i : ℕ) → P (i * s + k) → HasRule N i × Q (rule_at N i))
         → Passes P (below q (length N.names) (some_gate surely)) (through s k (back N link q) ++ []) → (q < length N.names) × C
     concluded_sound C sure by_rule into h =
         let o = open_gate P (nat_lt q (length N.names)) (some_gate surely) below_q h in
@@ -58,7 +58,7 @@ module _ (N : NetLists) (numbered : IsNumbered N) (got : Tagged → Type 0) (P :
         )
 
     pub concluded_passes : q < length N.names → (surely ≡ true) ⊎ Any (λ r. R (literal_at N q) r × Q r) N.theory.rules
-        → ((r : ℕ) → R (literal_at N q) (rule_at N r) → (r < length N.theory.rules) × Q (rule_at N r) → P (r * s + k))
+        → ((r : ℕ) → R (literal_at N q) (rule_at N r) → HasRule N r × Q (rule_at N r) → P (r * s + k))
         → Passes P (below q (length N.names) (some_gate surely)) (through s k (back N link q) ++ [])
     concluded_passes lt h from =
         close_gate P (nat_lt q (length N.names)) (some_gate surely) below_q (lt-ltb q (length N.names) lt)
@@ -69,7 +69,7 @@ module _ (N : NetLists) (numbered : IsNumbered N) (got : Tagged → Type 0) (P :
 
   module _ (may : Bool) where
     pub refuted_sound : (C : Type 0) → (q < length N.names → may ≡ true → All (λ r. R (literal_at N q) r → Q r) N.theory.rules → C)
-        → ((i : ℕ) → P (i * s + k) → (i < length N.theory.rules) × Q (rule_at N i))
+        → ((i : ℕ) → P (i * s + k) → HasRule N i × Q (rule_at N i))
         → Passes P (below q (length N.names) (each_gate may)) (through s k (back N link q) ++ []) → (q < length N.names) × C
     refuted_sound C by_rules into h =
         let o = open_gate P (nat_lt q (length N.names)) (each_gate may) below_q h in
@@ -78,7 +78,7 @@ module _ (N : NetLists) (numbered : IsNumbered N) (got : Tagged → Type 0) (P :
         (lt, by_rules lt each.0 (each_sound N numbered got P s (R (literal_at N q)) (back N link q) (listing q lt) Q k small into each.1))
 
     pub refuted_passes : q < length N.names → may ≡ true → All (λ r. R (literal_at N q) r → Q r) N.theory.rules
-        → ((r : ℕ) → R (literal_at N q) (rule_at N r) → (r < length N.theory.rules) × Q (rule_at N r) → P (r * s + k))
+        → ((r : ℕ) → R (literal_at N q) (rule_at N r) → HasRule N r × Q (rule_at N r) → P (r * s + k))
         → Passes P (below q (length N.names) (each_gate may)) (through s k (back N link q) ++ [])
     refuted_passes lt allowed h from =
         close_gate P (nat_lt q (length N.names)) (each_gate may) below_q (lt-ltb q (length N.names) lt)

@@ -14,8 +14,8 @@ use Rattle.dl_theory.specs.Derivations.{Follows}
 use Rattle.dl_theory.specs.Verdicts.{needs}
 use Rattle.dl_theory.proofs.Needs.{needs_itself}
 use Rattle.dl_theory.proofs.Closure.{follows_step, saturated_has}
-use Rattle.dl_net.specs.Counting.{times}
-use Rattle.dl_net.specs.Numbers.{NetLists, IsNumbered, no_literal, literal_at, number}
+use Rattle.dl_graph.specs.Counting.{times}
+use Rattle.dl_graph.specs.Numbers.{NetLists, IsNumbered, no_literal, literal_at, number}
 use Rattle.dl_fill.specs.Counters.{CounterLists}
 use Rattle.dl_fill.specs.Before.{is_inside}
 use Rattle.dl_fill.specs.Meanings.{HasTag}

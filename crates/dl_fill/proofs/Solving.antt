@@ -9,9 +9,9 @@ use Rattle.std.proofs.lemmas.List.Sums.{sum_by-cons}
 use Rattle.std.proofs.lemmas.List.Elements.{All-contains}
 use Rattle.std.proofs.Math.Nat.{mul-le-mul_right, mul-add}
 use Rattle.dl_base.proofs.Distinct.{no_longer}
-use Rattle.dl_net.specs.Counting.{times}
-use Rattle.dl_net.specs.Region.{Numbers, IsRegion}
-use Rattle.dl_net.specs.Numbers.{NetLists}
+use Rattle.dl_graph.specs.Counting.{times}
+use Rattle.dl_graph.specs.Region.{Numbers, IsRegion}
+use Rattle.dl_graph.specs.Numbers.{NetLists}
 use Rattle.dl_fill.specs.Counters.{CounterLists, hit, waiting}
 use Rattle.dl_fill.specs.declared.wire.Wire.{Wire}
 use Rattle.dl_fill.specs.declared.wire.Gate.{Gate}

@@ -11,9 +11,9 @@ use Rattle.dl_theory.specs.Derivations.{Derives, Follows}
 use Rattle.dl_theory.specs.Verdicts.{Back, Matters, needs}
 use Rattle.dl_theory.proofs.Closure.{back_closed, follows_step}
 use Rattle.dl_marks.specs.Marks.{Marking}
-use Rattle.dl_net.specs.Counting.{times}
-use Rattle.dl_net.specs.Numbers.{NetLists, IsNumbered, literal_at}
-use Rattle.dl_net.specs.Region.{Numbers}
+use Rattle.dl_graph.specs.Counting.{times}
+use Rattle.dl_graph.specs.Numbers.{NetLists, IsNumbered, literal_at}
+use Rattle.dl_graph.specs.Region.{Numbers}
 use Rattle.dl_fill.specs.declared.wire.Gate.{Gate}
 use Rattle.dl_fill.specs.declared.basis.Basis.{Basis}
 use Rattle.dl_fill.specs.Before.{Before, before_of, tag_of, is_inside, IsExact, IsExactOutside}
@@ -84,7 +84,7 @@ module _ (t : FamilyTable) (Part : NetLists → (Tagged → Type 0) → ℕ → 
     Saturates =
         (N : NetLists) → IsNumbered N → (m : Marking) (region : Numbers) → ((f : Family) → Contains t.below f → IsExact N (before_of m region) f)
         → ((f : Family) → IsTrue (t.fills f) → IsExactOutside N (before_of m region) f)
-        → (rules : List ℕ) → Touches N region.members rules → (places : ℕ) → length N.names ≤ places → length N.theory.rules ≤ places
+        → (rules : List ℕ) → Touches N region.members rules → (places : ℕ) → length N.names ≤ places → length N.rules ≤ places
         → (Fired : ℕ → Type 0)
         → ((k i : ℕ) → k < t.width → i < places → is_touched_at t.literals region.members rules k i ≡ true
         → Passes Fired (gate N (before_of m region) k i) (inputs_at N (is_inside region.members) t.width t.wires k i) → Fired (i * t.width + k))
@@ -153,7 +153,7 @@ module _ (t : FamilyTable) (Part : NetLists → (Tagged → Type 0) → ℕ → 
           means f e p q h = (with_tag (t.kind f p) q (tag_of p f) (shows.tags f e p) (fired_at (t.kind f p) q (small f e p) h)).1
 
           pub solves : ((q : ℕ) → 0 < times q region.members → q < length N.names) → (places : ℕ) → length w.need ≡ places * t.width → length N.names ≤ places
-              → length N.theory.rules ≤ places → (f : Family) → IsTrue (t.fills f) → IsSolved N region.members (HasFired t.width (t.kind f) w) f
+              → length N.rules ≤ places → (f : Family) → IsTrue (t.fills f) → IsSolved N region.members (HasFired t.width (t.kind f) w) f
           solves within places size names_fit rules_fit =
               solved.solved N numbered region.members t.width t.fills t.kind w within means
               (shows.saturates N numbered m region right outside rules run.touches places names_fit rules_fit (λ x. 0 < times x w.queue)

@@ -8,7 +8,7 @@ use Rattle.std.proofs.lemmas.List.{append-nil, take-append-drop, get_or-take, ge
 use Rattle.std.proofs.lemmas.List.Concat.{flat_map-cons}
 use Rattle.std.proofs.lemmas.List.Elements.{All-head, All-tail}
 use Rattle.std.proofs.lemmas.Option.{slice_get-get_or}
-use Rattle.dl_net.specs.Numbers.{NetLists, next}
+use Rattle.dl_graph.specs.Numbers.{NetLists, next}
 use Rattle.dl_fill.specs.declared.spans.Spans.{Spans}
 use Rattle.dl_fill.specs.declared.wire.Wire.{Wire}
 use Rattle.dl_fill.specs.Spans.{IsSpans}

@@ -3,8 +3,8 @@ use Rattle.std.proofs.Common.{◌≡◌, ℕ, zero, suc, ◌/◌, ◌%◌, ◌<�
 use Rattle.std.specs.Prelude.{nat_lt}
 use Rattle.std.proofs.lemmas.Bool.{and_parts, ltb-true}
 use Rattle.dl_lit.specs.declared.literal.Tag.{Tag}
-use Rattle.dl_net.specs.declared.link.Link.{Link}
-use Rattle.dl_net.specs.declared.link.Link.TheVariants.{Same, Uses, Backs, Proves, Opposes, Defends, Counters}
+use Rattle.dl_graph.specs.declared.link.Link.{Link}
+use Rattle.dl_graph.specs.declared.link.Link.TheVariants.{Same, Uses, Backs, Proves, Opposes, Defends, Counters}
 use Rattle.dl_fill.specs.declared.wire.Wire.{Wire}
 use Rattle.dl_fill.specs.Steps.{tag_at}
 use Rattle.dl_fill.specs.Wires.{AreKinds, IsLive}

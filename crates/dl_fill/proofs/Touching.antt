@@ -1,20 +1,21 @@
 -- The rules for and against the literals of a region, and readers from a place on.
-use Rattle.std.proofs.Common.{◌≡◌, ℕ, suc, ◌+◌, ◌<◌, ◌≤◌, Bool, true, false, Some, None, cond, List, [], ◌∷◌, ◌++◌, length, take, replicate, inl, inr, ◌⊎◌, sym, subst, ap, refl, ◌∙◌, arith, length-append}
+use Rattle.std.proofs.Common.{◌≡◌, ℕ, suc, ◌+◌, ◌<◌, ◌≤◌, Bool, true, false, Option, Some, None, cond, List, [], ◌∷◌, ◌++◌, length, take, replicate, inl, inr, ◌⊎◌, sym, subst, ap, refl, ◌∙◌, arith, length-append}
 use Rattle.std.specs.Prelude.{slice_get, Contains, filter}
 use Rattle.std.proofs.lemmas.Bool.{cases_eq, cases_lt}
 use Rattle.std.proofs.lemmas.List.{take_more, take_all, length-replicate}
 use Rattle.std.proofs.lemmas.Option.{slice_get_within, get_or_from_slice_get, slice_get-get_or}
 use Rattle.dl_theory.specs.declared.rule.Rule.{Rule}
 use Rattle.dl_theory.specs.Lists.{attackers, Supports, Opposes}
-use Rattle.dl_net.specs.Counting.{times}
-use Rattle.dl_net.specs.Region.{Numbers}
-use Rattle.dl_net.specs.Rows.{places_from}
-use Rattle.dl_net.specs.Numbers.{NetLists, IsNumbered, no_rule, literal_at, rule_at, number, attackers_row, head_row, body_row, heads, back}
-use Rattle.dl_net.specs.declared.link.Link.TheVariants.{Uses}
+use Rattle.dl_graph.specs.Counting.{times}
+use Rattle.dl_graph.specs.Region.{Numbers}
+use Rattle.dl_graph.specs.Rows.{places_from}
+use Rattle.dl_graph.specs.Numbers.{NetLists, IsNumbered, HasRule, literal_at, rule_at, of_rule, number, attackers_row, head_row, body_row, heads, back}
+use Rattle.dl_graph.specs.declared.link.Link.TheVariants.{Uses}
 use Rattle.dl_fill.specs.Prepared.{one_if}
 use Rattle.dl_fill.specs.Touched.{Touches, Grows}
 use Rattle.dl_fill.proofs.Times.{times-append, times_cons_same, times_cons_other, times_push_same, times_push_other}
-use Rattle.dl_fill.proofs.Rows.{places_turned, row_inside, row_outside}
+use Rattle.dl_graph.proofs.Slots.{rule_within, row_of, row_has}
+use Rattle.dl_fill.proofs.Rows.{places_turned}
 use Rattle.dl_fill.proofs.Links.{single_has, body_sound, numbers_complete}
 use Rattle.dl_fill.proofs.Written.{contains_times, member_or_not}
 
@@ -60,8 +61,8 @@ all_at xs i e = elim (cases_lt i (length xs)) [
   | inr ge ↦ take_all i xs ge
 ]
 
-module _ (f : Rule → List ℕ) (q : ℕ) (few : (x : Rule) → times q (f x) ≤ 1) where
-  length-places : (xs : List Rule) (k : ℕ) → length (places_from f k xs q) ≤ length xs
+module _ {X : Type 0} (f : X → List ℕ) (q : ℕ) (few : (x : X) → times q (f x) ≤ 1) where
+  length-places : (xs : List X) (k : ℕ) → length (places_from f k xs q) ≤ length xs
   length-places [] k = omega arith
   length-places (x ∷ xs) k =
       omega (
@@ -73,38 +74,38 @@ module _ (f : Rule → List ℕ) (q : ℕ) (few : (x : Rule) → times q (f x) �
       )
 
 module _ (N : NetLists) where
-  pub heads_few : (q : ℕ) → length (heads N q) ≤ length N.theory.rules
-  heads_few q = length-places (head_row N) q (λ r. one_head q (number N r.head)) N.theory.rules 0
+  pub heads_few : (q : ℕ) → length (heads N q) ≤ length N.rules
+  heads_few q = length-places (of_rule (head_row N)) q (one_head q) N.rules 0
     where
-      one_head : (q n : ℕ) → times q (n ∷ []) ≤ 1
-      one_head q n = elim (cases_eq q n) [
+      one_number : (q n : ℕ) → times q (n ∷ []) ≤ 1
+      one_number q n = elim (cases_eq q n) [
         | inl is ↦ omega (arith, times_cons_same q n [] is)
         | inr other ↦ omega (arith, times_cons_other q n [] other)
       ]
 
-  pub heads_inside : (q r : ℕ) → 0 < times r (heads N q) → r < length N.theory.rules
-  heads_inside q r m = elim (cases_lt r (length N.theory.rules)) [
-    | inl lt ↦ lt
-    | inr ge ↦ absurd (omega (arith, m, places_turned (head_row N) N.theory.rules r q, ap (times q) (row_outside (head_row N) N.theory.rules r ge)))
-  ]
+      one_head : (q : ℕ) (r : Option Rule) → times q (of_rule (head_row N) r) ≤ 1
+      one_head q None = omega arith
+      one_head q (Some r) = one_number q (number N r.head)
 
-  pub heads_has : (q r : ℕ) → r < length N.theory.rules → number N (rule_at N r).head ≡ q → 0 < times r (heads N q)
+  pub heads_inside : (q r : ℕ) → 0 < times r (heads N q) → r < length N.rules
+  heads_inside q r m = rule_within N r (row_has N (head_row N) r q (omega (arith, m, places_turned (of_rule (head_row N)) N.rules r q))).0
+
+  pub heads_has : (q r : ℕ) → HasRule N r → number N (rule_at N r).head ≡ q → 0 < times r (heads N q)
   heads_has q r lt e =
       omega (
         arith,
-        places_turned (head_row N) N.theory.rules r q,
-        ap (times q) (row_inside (head_row N) N.theory.rules r no_rule lt),
+        places_turned (of_rule (head_row N)) N.rules r q,
+        ap (times q) (row_of N (head_row N) r lt),
         single_has q (number N (rule_at N r).head) (sym e),
       )
 
   module _ (numbered : IsNumbered N) where
     pub body_inside : (r i b : ℕ) → slice_get (back N Uses r) i ≡ Some b → b < length N.names
-    body_inside r i b e = elim (cases_lt r (length N.theory.rules)) [
-      | inl lt ↦ (body_sound N numbered r lt b (stands_at (back N Uses r) i b e)).1
-      | inr ge ↦ absurd (omega (arith, stands_at (back N Uses r) i b e, ap (times b) (row_outside (body_row N) N.theory.rules r ge)))
-    ]
+    body_inside r i b e =
+        let m = stands_at (back N Uses r) i b e in
+        (body_sound N numbered r (row_has N (body_row N) r b m).0 b m).1
 
-    module _ (members rules : List ℕ) (touches : Touches N members rules) (q : ℕ) (here : 0 < times q members) (lt : q < length N.names) (r : ℕ) (inside : r < length N.theory.rules) where
+    module _ (members rules : List ℕ) (touches : Touches N members rules) (q : ℕ) (here : 0 < times q members) (lt : q < length N.names) (r : ℕ) (inside : HasRule N r) where
       pub supports_touched : Supports (literal_at N q) (rule_at N r) → 0 < times r rules
       supports_touched h = touches.for_members q here r (heads_has q r inside (ap (number N) h.0 ∙ numbered.distinct q lt))
 

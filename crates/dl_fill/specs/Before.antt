@@ -1,5 +1,5 @@
 -- What stands before a fill, and how the gates of literals read it.
-use Rattle.std.specs.Prelude.{◌≡◌, ℕ, ◌<◌, Bool, true, false, not, ◌&&◌, ◌||◌, cond, List, length, nat_lt}
+use Rattle.std.specs.Prelude.{◌≡◌, ℕ, ◌<◌, Bool, true, false, not, ◌&&◌, ◌||◌, cond, None, is_some, List, length, get_or, nat_lt}
 use Rattle.std.specs.Bool.{Decides}
 use Rattle.std.specs.List.{list_all, list_any}
 use Rattle.dl_lit.specs.declared.literal.Tag.{Tag}
@@ -8,10 +8,10 @@ use Rattle.dl_lit.specs.declared.literal.Family.TheVariants.{Definite}
 use Rattle.dl_lit.specs.Literal.{tagged}
 use Rattle.dl_theory.specs.Derivations.{Follows}
 use Rattle.dl_marks.specs.Marks.{Marking, marked}
-use Rattle.dl_net.specs.Region.{Numbers}
-use Rattle.dl_net.specs.Counting.{times}
-use Rattle.dl_net.specs.Numbers.{NetLists, literal_at, attackers_row, back}
-use Rattle.dl_net.specs.declared.link.Link.TheVariants.{Uses}
+use Rattle.dl_graph.specs.Region.{Numbers}
+use Rattle.dl_graph.specs.Counting.{times}
+use Rattle.dl_graph.specs.Numbers.{NetLists, literal_at, attackers_row, back}
+use Rattle.dl_graph.specs.declared.link.Link.TheVariants.{Uses}
 use Rattle.dl_fill.specs.declared.wire.Gate.{Gate}
 use Rattle.dl_fill.specs.declared.wire.Gate.TheVariants.{Every, Either, Now, Never}
 
@@ -28,6 +28,10 @@ before_of m region = record { inside = is_inside region.members; marked = marked
 
 abbrev pub tag_of : Bool → Family → Tag
 tag_of plus f = record { plus = plus; family = f }
+
+-- whether a number has a rule
+abbrev pub is_rule : NetLists → ℕ → Bool
+is_rule N r = is_some (get_or N.rules r None)
 
 -- each literal that attacks q is refuted in the definite family
 abbrev pub attack_fails : NetLists → (Tag → ℕ → Bool) → ℕ → Bool

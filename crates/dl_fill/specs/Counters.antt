@@ -1,5 +1,5 @@
 -- Nodes that wait for a number of hits, and those whose hits have come.
-use Rattle.dl_net.specs.Counting.{times}
+use Rattle.dl_graph.specs.Counting.{times}
 use Rattle.std.specs.Prelude.{◌≡◌, ◌≤◌, ◌<◌, ◌^◌, Bool, false, length, slice_index_or, ℕ, ◌+◌, ◌-◌, ◌==◌, cond, List, [], ◌∷◌, ◌++◌, slice_index, slice_set, count_by, nat_lt}
 
 -- how many hits each node still waits for, and the nodes that are done waiting, in order

@@ -1,6 +1,6 @@
 -- How many members two lists of numbers share.
 use Rattle.std.specs.Prelude.{ℕ, ◌+◌, List, [], ◌∷◌}
-use Rattle.dl_net.specs.Counting.{times}
+use Rattle.dl_graph.specs.Counting.{times}
 
 -- how often the members of the first list stand in the second, added up
 abbrev pub overlap : List ℕ → List ℕ → ℕ

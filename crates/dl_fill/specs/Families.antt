@@ -8,9 +8,9 @@ use Rattle.dl_lit.specs.Literal.{tagged}
 use Rattle.dl_theory.specs.Derivations.{Derives}
 use Rattle.dl_theory.specs.Verdicts.{Back, Matters, needs}
 use Rattle.dl_marks.specs.Marks.{Marking}
-use Rattle.dl_net.specs.Counting.{times}
-use Rattle.dl_net.specs.Numbers.{NetLists, IsNumbered, literal_at}
-use Rattle.dl_net.specs.Region.{Numbers}
+use Rattle.dl_graph.specs.Counting.{times}
+use Rattle.dl_graph.specs.Numbers.{NetLists, IsNumbered, literal_at}
+use Rattle.dl_graph.specs.Region.{Numbers}
 use Rattle.dl_fill.specs.declared.basis.Basis.{Basis}
 use Rattle.dl_fill.specs.declared.wire.Gate.{Gate}
 use Rattle.dl_fill.specs.declared.wire.Wire.{Wire}
@@ -55,7 +55,7 @@ Solves t gate =
     → ((f : Family) → IsTrue (t.fills f) → IsExactOutside N (before_of m region) f)
     → ((q : ℕ) → 0 < times q region.members → q < length N.names) → (rules : List ℕ) (w : CounterLists)
     → HasRun N (before_of m region) region.members t.width t.literals t.wires (gate N (before_of m region)) rules w
-    → (places : ℕ) → length w.need ≡ places * t.width → length N.names ≤ places → length N.theory.rules ≤ places
+    → (places : ℕ) → length w.need ≡ places * t.width → length N.names ≤ places → length N.rules ≤ places
     → (f : Family) → IsTrue (t.fills f) → IsSolved N region.members (HasFired t.width (t.kind f) w) f
 
 -- what nodes in order are read as is a derivation, of what matters for a literal, behind one of what their gates read: in the region of

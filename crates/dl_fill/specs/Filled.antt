@@ -6,9 +6,9 @@ use Rattle.dl_lit.specs.Literal.{tagged}
 use Rattle.dl_theory.specs.Derivations.{Follows}
 use Rattle.dl_theory.specs.Marks.{IsRightAt, IsFamilyRight}
 use Rattle.dl_marks.specs.Marks.{Marking, places, marked, is_owned}
-use Rattle.dl_net.specs.Region.{Numbers}
-use Rattle.dl_net.specs.Counting.{times}
-use Rattle.dl_net.specs.Numbers.{NetLists, literal_at}
+use Rattle.dl_graph.specs.Region.{Numbers}
+use Rattle.dl_graph.specs.Counting.{times}
+use Rattle.dl_graph.specs.Numbers.{NetLists, literal_at}
 use Rattle.dl_fill.specs.Counters.{CounterLists}
 use Rattle.dl_fill.specs.Before.{tag_of}
 

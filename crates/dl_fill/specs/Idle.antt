@@ -1,6 +1,6 @@
 -- The parts of a fill between fills.
 use Rattle.std.specs.Prelude.{◌≡◌, ℕ, ◌*◌, [], length}
-use Rattle.dl_net.specs.Region.{Numbers}
+use Rattle.dl_graph.specs.Region.{Numbers}
 use Rattle.dl_fill.specs.Counters.{CounterLists}
 use Rattle.dl_fill.specs.Prepared.{IsClean}
 

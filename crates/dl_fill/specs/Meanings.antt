@@ -6,7 +6,7 @@ use Rattle.dl_lit.specs.Literal.{tagged}
 use Rattle.dl_theory.specs.declared.rule.Rule.{Rule}
 use Rattle.dl_theory.specs.Lists.{Supports}
 use Rattle.dl_theory.specs.Conditions.{IsOn, IsOff}
-use Rattle.dl_net.specs.Numbers.{NetLists, literal_at, rule_at}
+use Rattle.dl_graph.specs.Numbers.{NetLists, HasRule, literal_at, rule_at}
 use Rattle.dl_fill.specs.Rivals.{Defending}
 
 module _ (N : NetLists) (got : Tagged → Type 0) where
@@ -16,11 +16,11 @@ module _ (N : NetLists) (got : Tagged → Type 0) where
 
   -- each body literal of the rule is concluded
   abbrev pub IsOnAt : Family → ℕ → Type 0
-  IsOnAt f r = (r < length N.theory.rules) × IsOn got f (rule_at N r)
+  IsOnAt f r = HasRule N r × IsOn got f (rule_at N r)
 
   -- some body literal of the rule is refuted
   abbrev pub IsOffAt : Family → ℕ → Type 0
-  IsOffAt f r = (r < length N.theory.rules) × IsOff got f (rule_at N r)
+  IsOffAt f r = HasRule N r × IsOff got f (rule_at N r)
 
   -- some rule that supports the literal is on
   abbrev pub IsSupported : Family → ℕ → Type 0
@@ -33,12 +33,12 @@ module _ (N : NetLists) (got : Tagged → Type 0) where
   -- the rule is off in the family that it is judged by, or one of its rivals is on
   abbrev pub IsAnsweredBy : (Rule → Rule → Type 0) → Family → Family → ℕ → Type 0
   IsAnsweredBy Rival f against u =
-      (u < length N.theory.rules) × (IsOff got against (rule_at N u) ⊎ Any (λ t. Rival (rule_at N u) t × IsOn got f t) N.theory.rules)
+      HasRule N u × (IsOff got against (rule_at N u) ⊎ Any (λ t. Rival (rule_at N u) t × IsOn got f t) N.theory.rules)
 
   -- the rule is on in the family that it is judged by, and each of its rivals is off
   abbrev pub IsUnansweredBy : (Rule → Rule → Type 0) → Family → Family → ℕ → Type 0
   IsUnansweredBy Rival f against u =
-      (u < length N.theory.rules)
+      HasRule N u
       × (IsOn got against (rule_at N u) × All (λ t. Rival (rule_at N u) t → IsOff got f t) N.theory.rules)
 
   -- an attacker is off, or a rule that defends its head against it is on

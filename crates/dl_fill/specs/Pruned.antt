@@ -1,7 +1,7 @@
 -- Going back along a queue: what kept nodes still ask of the nodes before them.
 use Rattle.std.specs.Prelude.{◌≡◌, ◌⊎◌, ℕ, ◌<◌, Bool, true, false, ◌||◌, List, [], ◌∷◌, ◌++◌, slice_set, slice_index_or}
 use Rattle.std.specs.List.{fold}
-use Rattle.dl_net.specs.Counting.{times}
+use Rattle.dl_graph.specs.Counting.{times}
 use Rattle.dl_fill.specs.declared.wire.Gate.{Gate}
 use Rattle.dl_fill.specs.declared.wire.Gate.TheVariants.{Every, Either, Now, Never}
 use Rattle.dl_fill.specs.declared.needs.Need.{Need}

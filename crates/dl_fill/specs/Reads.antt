@@ -3,7 +3,7 @@ use Rattle.std.specs.Prelude.{◌≡◌, ℕ, ◌<◌, Bool, true, false, List, 
 use Rattle.dl_lit.specs.declared.literal.Literal.{Literal}
 use Rattle.dl_lit.specs.declared.literal.Family.TheVariants.{Definite}
 use Rattle.dl_theory.specs.Lists.{attackers}
-use Rattle.dl_net.specs.Numbers.{NetLists, literal_at}
+use Rattle.dl_graph.specs.Numbers.{NetLists, literal_at}
 use Rattle.dl_fill.specs.declared.basis.Basis.{Basis}
 use Rattle.dl_fill.specs.declared.basis.Basis.TheVariants.{Prevailing, Failing, Sure, Unsure, Nothing}
 use Rattle.dl_fill.specs.Before.{Before, tag_of, attack_fails, attack_holds}

@@ -1,10 +1,10 @@
 -- The run of a queue: each node in turn passes on its hits.
 use Rattle.std.specs.Prelude.{ℕ, ◌+◌, ◌<◌, ◌≤◌, List, length, slice_index}
 use Rattle.std.specs.List.{fold}
-use Rattle.dl_net.specs.Counting.{times}
+use Rattle.dl_graph.specs.Counting.{times}
 use Rattle.dl_fill.specs.Counters.{CounterLists, hit}
 use Rattle.dl_fill.specs.declared.wire.Gate.{Gate}
-use Rattle.dl_net.specs.Numbers.{NetLists}
+use Rattle.dl_graph.specs.Numbers.{NetLists}
 use Rattle.dl_fill.specs.declared.wire.Wire.{Wire}
 use Rattle.dl_fill.specs.Wires.{edges, inputs}
 use Rattle.dl_fill.specs.Before.{Before}

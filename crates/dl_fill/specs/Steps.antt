@@ -5,7 +5,7 @@ use Rattle.dl_lit.specs.declared.literal.Literal.{Literal}
 use Rattle.dl_lit.specs.declared.literal.Tagged.{Tagged}
 use Rattle.dl_lit.specs.declared.literal.Tag.{Tag}
 use Rattle.dl_lit.specs.Literal.{tagged}
-use Rattle.dl_net.specs.Numbers.{NetLists, literal_at}
+use Rattle.dl_graph.specs.Numbers.{NetLists, literal_at}
 
 -- the tag that nodes of a kind stand for, if they stand for one
 abbrev pub tag_at : List (Option Tag) → ℕ → Option Tag

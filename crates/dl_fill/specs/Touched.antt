@@ -1,8 +1,8 @@
 -- The rules for and against the literals of a region.
 use Rattle.std.specs.Prelude.{◌≡◌, ℕ, ◌<◌, List}
-use Rattle.dl_net.specs.Region.{Numbers}
-use Rattle.dl_net.specs.Counting.{times}
-use Rattle.dl_net.specs.Numbers.{NetLists, literal_at, attackers_row, heads}
+use Rattle.dl_graph.specs.Region.{Numbers}
+use Rattle.dl_graph.specs.Counting.{times}
+use Rattle.dl_graph.specs.Numbers.{NetLists, literal_at, attackers_row, heads}
 
 -- the rules for each member, and those for each literal that attacks one, are there
 pub record Touches (N : NetLists) (members rules : List ℕ) : Type 0 where

@@ -1,9 +1,9 @@
 -- The nodes of a family: of a kind below a width, at a place. A wire leads from the nodes of one kind to those of another.
 use Rattle.std.specs.Prelude.{◌≡◌, true, ℕ, ◌+◌, ◌*◌, ◌/◌, ◌%◌, ◌<◌, ◌==◌, Bool, cond, List, [], ◌∷◌, ◌++◌, map, filter}
 use Rattle.std.specs.List.{flat_map}
-use Rattle.dl_net.specs.Numbers.{NetLists, next, back}
-use Rattle.dl_net.specs.declared.link.Link.{Link}
-use Rattle.dl_net.specs.declared.link.Link.TheVariants.{Same, Uses, Backs, Proves, Opposes, Defends, Counters}
+use Rattle.dl_graph.specs.Numbers.{NetLists, next, back}
+use Rattle.dl_graph.specs.declared.link.Link.{Link}
+use Rattle.dl_graph.specs.declared.link.Link.TheVariants.{Same, Uses, Backs, Proves, Opposes, Defends, Counters}
 use Rattle.dl_fill.specs.declared.wire.Wire.{Wire}
 
 -- the nodes of a kind at places

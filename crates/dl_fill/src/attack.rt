@@ -2,14 +2,14 @@
 
 ghost use Rattle.std.specs.Prelude.{◌≡◌, ℕ, ◌<◌, ◌≤◌, ◌&&◌, ◌||◌, not, false, true, length, IsTrue};
 ghost use Rattle.dl_marks.specs.Marks.{places, marked};
-ghost use Rattle.dl_net.specs.Numbers as numbers;
+ghost use Rattle.dl_graph.specs.Numbers as numbers;
 ghost use Rattle.dl_fill.specs.Before as before;
 ghost use Rattle.dl_fill.specs.Before.{before_of, on_gate, off_gate, plus_gate, minus_gate, some_gate, each_gate};
 
 use crate::wire::Gate;
+use dl_graph::{Graph, Link, Region};
 use dl_lit::{Family, Tag};
 use dl_marks::Marks;
-use dl_net::{Graph, Link, Region};
 
 /// Whether the number is in the region.
 pub fn is_inside(region: &Region, number: usize) -> bool

@@ -3,8 +3,8 @@
 ghost use Rattle.std.specs.Prelude.{◌≡◌, ℕ, ◌*◌, ◌/◌, ◌%◌, ◌<◌, ◌≤◌, [], length, reverse, IfOk, OnOk};
 ghost use Rattle.std.specs.List.{fold};
 ghost use Rattle.dl_marks.specs.Marks.{places};
-ghost use Rattle.dl_net.specs.Numbers.{next};
-ghost use Rattle.dl_net.specs.Counting.{times};
+ghost use Rattle.dl_graph.specs.Numbers.{next};
+ghost use Rattle.dl_graph.specs.Counting.{times};
 ghost use Rattle.dl_fill.specs.Before.{before_of, is_inside};
 ghost use Rattle.dl_fill.specs.Wires.{inputs, edges, through, AreKinds, IsLive};
 ghost use Rattle.dl_fill.specs.Passing.{Passing};
@@ -14,8 +14,8 @@ use crate::needs::Needs;
 use crate::whole_run::Gates;
 use crate::wire::Wire;
 use dl_base::Memory;
+use dl_graph::{Graph, Link, Region};
 use dl_marks::Marks;
-use dl_net::{Graph, Link, Region};
 use std::alloc::Global;
 
 /// Serves each number to which the link leads.
@@ -101,7 +101,7 @@ pub fn prune<G: Gates>(
     requires kinds { AreKinds width wires.now }
     requires size { length wanted.now / width * width ≡ length wanted.now }
     requires names { length net.now.names ≤ length wanted.now / width }
-    requires rules { length net.now.theory.rules ≤ length wanted.now / width }
+    requires rules { length net.now.rules ≤ length wanted.now / width }
     requires bound { region.now.bound ≡ length net.now.names }
     requires room { length net.now.names ≤ places marks.now }
     requires inside { (x : ℕ) → 0 < times x nodes.now → x < length wanted.now }

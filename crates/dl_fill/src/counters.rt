@@ -4,7 +4,7 @@ ghost use Rattle.std.specs.Prelude.{◌≡◌, ◌<◌, ◌≤◌, ◌+◌, ◌-
 ghost use Rattle.std.specs.Prelude.{take};
 ghost use Rattle.std.specs.List.{fold};
 ghost use Rattle.std.specs.Vec.{vec_capacity};
-ghost use Rattle.dl_net.specs.Counting.{times};
+ghost use Rattle.dl_graph.specs.Counting.{times};
 ghost use Rattle.dl_fill.specs.Cells.{counted_down, come_down};
 ghost use Rattle.dl_fill.specs.Counters.{hit, chosen, waiting, AreNodes, IsQueue};
 

@@ -2,7 +2,7 @@
 
 ghost use Rattle.std.specs.Prelude.{◌≡◌, ℕ, ◌*◌, ◌+◌, ◌-◌, ◌<◌, ◌≤◌, Contains, IsTrue, length, slice_index};
 ghost use Rattle.dl_lit.specs.declared.literal.Family.{Family};
-ghost use Rattle.dl_net.specs.Counting.{times};
+ghost use Rattle.dl_graph.specs.Counting.{times};
 ghost use Rattle.dl_fill.specs.Families.{IsFilledBy, HasPlaces, most_steps};
 ghost use Rattle.dl_fill.specs.Filled.{IsReady, IsFilled, IsRight, IsSolved, HasFired};
 ghost use Rattle.dl_fill.specs.Idle.{IsIdle};
@@ -13,8 +13,8 @@ use crate::parts::Parts;
 use crate::room::FillRoom;
 use crate::whole_run::{solve, tidy};
 use crate::write::write_families;
+use dl_graph::{Graph, Region};
 use dl_marks::{Marks, Steps};
-use dl_net::{Graph, Region};
 use std::sync::ledger::Ledger;
 
 /// Runs the counters until exactly what follows in the region has fired.
@@ -27,7 +27,7 @@ fn solve_families<G: FamilyGates>(
 )
     requires idle { IsIdle G.table.width parts.old.rules.bound parts.old.counters parts.old.rules }
     requires names { length net.now.names ≤ parts.old.rules.bound }
-    requires rules { length net.now.theory.rules ≤ parts.old.rules.bound }
+    requires rules { length net.now.rules ≤ parts.old.rules.bound }
     requires below { (f : Family) → Contains G.table.below f → IsRight net.now marks.now f }
     requires ready { IsReady net.now (IsFilledBy G.table) marks.now region.now }
     ensures solved { (f : Family) → IsFilledBy G.table f → IsSolved net.now region.now.members (HasFired G.table.width (G.table.kind f) parts.new.counters) f }
@@ -61,7 +61,7 @@ fn fill_with<G: FamilyGates, L: Ledger>(
 )
     requires idle { IsIdle G.table.width parts.old.rules.bound parts.old.counters parts.old.rules }
     requires names { length net.now.names ≤ parts.old.rules.bound }
-    requires rules { length net.now.theory.rules ≤ parts.old.rules.bound }
+    requires rules { length net.now.rules ≤ parts.old.rules.bound }
     requires below { (f : Family) → Contains G.table.below f → IsRight net.now marks.old f }
     requires ready { IsReady net.now (IsFilledBy G.table) marks.old region.now }
     ensures filled { IsFilled net.now (IsFilledBy G.table) marks.old marks.new }
@@ -94,7 +94,7 @@ pub fn fill<G: FamilyGates, L: Ledger>(
     room: &mut FillRoom,
     steps: &mut Steps<L>,
 )
-    requires room { HasPlaces G.table (length net.now.theory.rules) (length net.now.names) room.old }
+    requires room { HasPlaces G.table (length net.now.rules) (length net.now.names) room.old }
     requires below { (f : Family) → Contains G.table.below f → IsRight net.now marks.old f }
     requires ready { IsReady net.now (IsFilledBy G.table) marks.old region.now }
     ensures filled { IsFilled net.now (IsFilledBy G.table) marks.old marks.new }

@@ -1,9 +1,9 @@
 //! What each node waits for.
 
 ghost use Rattle.std.specs.Prelude.{◌≡◌, ◌⊎◌, ◌<◌, ◌≤◌, ◌+◌, ◌^◌, length, filter};
-ghost use Rattle.dl_net.specs.Counting.{times};
-ghost use Rattle.dl_net.specs.Numbers.{back};
-ghost use Rattle.dl_net.specs.declared.link.Link.TheVariants as link_kind;
+ghost use Rattle.dl_graph.specs.Counting.{times};
+ghost use Rattle.dl_graph.specs.Numbers.{back};
+ghost use Rattle.dl_graph.specs.declared.link.Link.TheVariants as link_kind;
 ghost use Rattle.dl_fill.specs.declared.wire.Gate.TheVariants.{Never};
 ghost use Rattle.dl_fill.specs.Counters.{waiting};
 ghost use Rattle.dl_fill.specs.Wires.{inner, inputs_at};
@@ -15,7 +15,7 @@ ghost use Rattle.dl_fill.specs.Spans.{IsSpans};
 use crate::counters::Counters;
 use crate::spans::Spans;
 use crate::wire::{Gate, Wire};
-use dl_net::{Graph, Link, Region};
+use dl_graph::{Graph, Link, Region};
 
 /// One more where it is inside.
 // Inlined always, as all below: so the wires and the width of a family are constants, and no node costs a call.

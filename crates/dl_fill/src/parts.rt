@@ -5,7 +5,7 @@ ghost use Rattle.dl_fill.specs.Idle.{IsIdle};
 
 use crate::counters::Counters;
 use dl_base::Memory;
-use dl_net::Region;
+use dl_graph::Region;
 use std::alloc::Global;
 
 /// The counters, and the rules that a region touches.

@@ -2,8 +2,8 @@
 
 ghost use Rattle.std.specs.Prelude.{◌≡◌, ℕ, ◌+◌, ◌*◌, ◌<◌, ◌≤◌, [], length, slice_index, IfSome, OnSome, IfNone};
 ghost use Rattle.std.specs.List.{fold};
-ghost use Rattle.dl_net.specs.Numbers.{next};
-ghost use Rattle.dl_net.specs.Counting.{times};
+ghost use Rattle.dl_graph.specs.Numbers.{next};
+ghost use Rattle.dl_graph.specs.Counting.{times};
 ghost use Rattle.dl_fill.specs.Counters.{hit, AreNodes};
 ghost use Rattle.dl_fill.specs.Wires.{edges, through};
 ghost use Rattle.dl_fill.specs.Runs.{IsRunOut};
@@ -13,7 +13,7 @@ use crate::counters::{BLOCK, Counters};
 use crate::spans::Spans;
 use crate::wire::Wire;
 use arrayvec::ArrayVec;
-use dl_net::{Graph, Link};
+use dl_graph::{Graph, Link};
 
 /// The hits that wait to be made, in order: a node for each.
 type Hits = ArrayVec<u32, BLOCK>;

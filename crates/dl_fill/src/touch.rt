@@ -1,20 +1,20 @@
 //! The rules that a region touches.
 
 ghost use Rattle.std.specs.Prelude.{◌≡◌, ℕ, ◌<◌, ◌≤◌, length, slice_get, Contains};
-ghost use Rattle.dl_net.specs.Counting.{times};
-ghost use Rattle.dl_net.specs.Numbers as numbers;
+ghost use Rattle.dl_graph.specs.Counting.{times};
+ghost use Rattle.dl_graph.specs.Numbers as numbers;
 ghost use Rattle.dl_fill.specs.Touched.{Touches, Grows};
 
 use crate::attack::is_everywhere;
-use dl_net::{Graph, Region};
+use dl_graph::{Graph, Region};
 
 /// Adds the rules with that head.
 fn touch_heads(net: &Graph<'_>, number: usize, rules: &mut Region)
-    requires room { length net.now.theory.rules ≤ rules.old.bound }
+    requires room { length net.now.rules ≤ rules.old.bound }
     ensures there { (r : ℕ) → 0 < times r (numbers.heads net.now number) → 0 < times r rules.new.members }
     ensures grows { Grows rules.old rules.new }
 {
-    let _rules = net.rules_len();
+    let _rules = net.rule_numbers();
     let _names = net.names();
     let mut at = 0;
     while let Some(rule) = net.heads(number, at) {
@@ -26,7 +26,7 @@ fn touch_heads(net: &Graph<'_>, number: usize, rules: &mut Region)
 /// Adds the rules for each literal that attacks the number.
 fn touch_against(net: &Graph<'_>, number: usize, rules: &mut Region)
     requires number { number < length net.now.names }
-    requires room { length net.now.theory.rules ≤ rules.old.bound }
+    requires room { length net.now.rules ≤ rules.old.bound }
     ensures there { (c : ℕ) → 0 < times c (numbers.attackers_row net.now (numbers.literal_at net.now number)) → (u : ℕ) → 0 < times u (numbers.heads net.now c) → 0 < times u rules.new.members }
     ensures grows { Grows rules.old rules.new }
 {
@@ -38,13 +38,13 @@ fn touch_against(net: &Graph<'_>, number: usize, rules: &mut Region)
     }
 }
 
-/// Adds all rules, in the order of the list, in which memory is read fastest.
+/// Adds all numbers of rules in ascending order, in which memory is read fastest. What is at an empty one has no wires and never fires.
 fn touch_all(net: &Graph<'_>, rules: &mut Region)
-    requires room { length net.now.theory.rules ≤ rules.old.bound }
-    ensures there { (r : ℕ) → r < length net.now.theory.rules → 0 < times r rules.new.members }
+    requires room { length net.now.rules ≤ rules.old.bound }
+    ensures there { (r : ℕ) → r < length net.now.rules → 0 < times r rules.new.members }
     ensures bound { rules.new.bound ≡ rules.old.bound }
 {
-    for rule in 0..net.rules_len() {
+    for rule in 0..net.rule_numbers() {
         rules.put(rule);
     }
 }
@@ -52,7 +52,7 @@ fn touch_all(net: &Graph<'_>, rules: &mut Region)
 /// Adds the rules for the members of the region and those against them.
 fn touch_members(net: &Graph<'_>, region: &Region, rules: &mut Region)
     requires bound { region.now.bound ≡ length net.now.names }
-    requires room { length net.now.theory.rules ≤ rules.old.bound }
+    requires room { length net.now.rules ≤ rules.old.bound }
     ensures touches { Touches net.now region.now.members rules.new.members }
     ensures bound { rules.new.bound ≡ rules.old.bound }
 {
@@ -69,7 +69,7 @@ fn touch_members(net: &Graph<'_>, region: &Region, rules: &mut Region)
 /// Makes the rules those for the members of the region and those against them. Where each literal is a member, so is each rule.
 pub fn touch(net: &Graph<'_>, region: &Region, rules: &mut Region)
     requires bound { region.now.bound ≡ length net.now.names }
-    requires room { length net.now.theory.rules ≤ rules.old.bound }
+    requires room { length net.now.rules ≤ rules.old.bound }
     ensures touches { Touches net.now region.now.members rules.new.members }
     ensures bound { rules.new.bound ≡ rules.old.bound }
 {

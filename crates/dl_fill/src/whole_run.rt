@@ -2,8 +2,8 @@
 
 ghost use Rattle.std.specs.Prelude.{◌≡◌, ◌⊎◌, ℕ, ◌+◌, ◌-◌, ◌*◌, ◌/◌, ◌%◌, ◌<◌, ◌≤◌, [], length, slice_index, All};
 ghost use Rattle.dl_marks.specs.Marks.{places};
-ghost use Rattle.dl_net.specs.Counting.{times};
-ghost use Rattle.dl_net.specs.Numbers.{NetLists};
+ghost use Rattle.dl_graph.specs.Counting.{times};
+ghost use Rattle.dl_graph.specs.Numbers.{NetLists};
 ghost use Rattle.dl_fill.specs.declared.wire.Gate.{Gate};
 ghost use Rattle.dl_fill.specs.declared.wire.Gate.TheVariants.{Never};
 ghost use Rattle.dl_fill.specs.Counters.{waiting};
@@ -19,8 +19,8 @@ use crate::queue::run;
 use crate::spans::Spans;
 use crate::touch::touch;
 use crate::wire::{Gate, Wire};
+use dl_graph::{Graph, Region};
 use dl_marks::Marks;
-use dl_net::{Graph, Region};
 
 /// The gates of a family.
 pub trait Gates {
@@ -259,7 +259,7 @@ pub fn solve<G: Gates>(
     requires none { rules.old.members ≡ [] }
     requires size { length counters.old.need ≡ rules.old.bound * width }
     requires names { length net.now.names ≤ rules.old.bound }
-    requires rules { length net.now.theory.rules ≤ rules.old.bound }
+    requires rules { length net.now.rules ≤ rules.old.bound }
     requires bound { region.now.bound ≡ length net.now.names }
     requires room { length net.now.names ≤ places marks.now }
     ensures run { HasRun net.now (before_of marks.now region.now) region.now.members width literals wires.now (G.tells gates.now net.now (before_of marks.now region.now)) rules.new.members counters.new }

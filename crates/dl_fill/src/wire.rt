@@ -1,6 +1,6 @@
 //! The wires between the nodes of a family, and what a node waits for.
 
-use dl_net::Link;
+use dl_graph::Link;
 
 /// From each node of one kind to nodes of another kind, where the link leads.
 #[derive(Clone, Copy)]

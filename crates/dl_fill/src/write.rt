@@ -3,7 +3,7 @@
 ghost use Rattle.std.specs.Prelude.{◌≡◌, ◌⊎◌, ℕ, ◌<◌, ◌≤◌, ◌+◌, ◌*◌, true, false, Bool, IsTrue, All, length};
 ghost use Rattle.dl_lit.specs.declared.literal.Tag.{Tag};
 ghost use Rattle.dl_lit.specs.declared.literal.Family.{Family};
-ghost use Rattle.dl_net.specs.Counting.{times};
+ghost use Rattle.dl_graph.specs.Counting.{times};
 ghost use Rattle.dl_marks.specs.Marks.{places, marked, is_owned};
 ghost use Rattle.dl_fill.specs.Before.{tag_of};
 ghost use Rattle.dl_fill.specs.Families.{IsFilledBy, family_steps, most_steps};
@@ -11,9 +11,9 @@ ghost use Rattle.dl_fill.specs.Filled.{IsWritten, IsFamilyWritten, AreWritten, H
 
 use crate::counters::Counters;
 use crate::family::FamilyGates;
+use dl_graph::Region;
 use dl_lit::{Family, Tag};
 use dl_marks::{Marks, Steps};
-use dl_net::Region;
 use std::sync::ledger::Ledger;
 
 /// Sets the mark if the node has fired.

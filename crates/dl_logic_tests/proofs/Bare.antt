@@ -1,24 +1,21 @@
 -- The cones of edits where no rule has a body, and the literals that are new.
-use Rattle.std.proofs.Common.{◌≡◌, ℕ, ◌+◌, ◌*◌, ◌≤◌, ◌<◌, Bool, true, false, not, List, [], ◌∷◌, length, inl, inr, ◌⊎◌, refl, sym, ap, subst, arith, ◌∙◌}
+use Rattle.std.proofs.Common.{◌≡◌, ℕ, ◌+◌, ◌≤◌, Bool, true, false, not, List, [], ◌∷◌, inl, inr, ◌⊎◌, refl, sym, ap, subst, arith, ◌∙◌}
 use Rattle.std.specs.Prelude.{All, Contains}
-use Rattle.std.proofs.lemmas.List.Elements.{All-nil, All-cons, All-contains, All-push, Contains-append_cases}
-use Rattle.dl_base.specs.Paths.{IsDistinct}
+use Rattle.std.proofs.lemmas.List.Elements.{All-nil, All-cons, All-contains, Contains-append_cases}
 use Rattle.dl_base.proofs.Distinct.{distinct_nil, distinct_cons}
 use Rattle.dl_base.proofs.Members.{only}
 use Rattle.dl_lit.specs.declared.literal.Literal.{Literal}
 use Rattle.dl_lit.specs.Literal.{complement}
 use Rattle.dl_theory.specs.declared.rule.Rule.{Rule}
-use Rattle.dl_theory.specs.declared.rule.Pair.{Pair}
 use Rattle.dl_theory.specs.declared.edit.Edit.{Edit}
-use Rattle.dl_theory.specs.declared.edit.Edit.TheVariants.{AddRule, AddFact, AddPair}
-use Rattle.dl_theory.specs.Lists.{TheoryLists, attackers}
+use Rattle.dl_theory.specs.Lists.{TheoryLists}
 use Rattle.dl_theory.specs.Listings.{Mentions}
 use Rattle.dl_theory.specs.Edits.{after_edit, IsAccepted}
 use Rattle.dl_theory.specs.Verdicts.{Reaches}
 use Rattle.dl_theory.specs.Cones.{IsOrAttacks, IsSeed, RaisesTo, Cone}
 use Rattle.dl_theory.proofs.Closure.{complement_twice}
 use Rattle.dl_theory.proofs.Deciding.{literal_in}
-use Rattle.dl_net.specs.Named.{IsNear}
+use Rattle.dl_graph.specs.Named.{IsNear}
 use Rattle.dl_update.specs.Drafts.{IsNew}
 use Rattle.dl_update.specs.Bound.{IsOnce, IsWithinCone}
 use Rattle.dl_logic_tests.specs.Costs.{a, b, c, label, rule, two_rules, fact_a, rule_c, pair_apart, rule_again}

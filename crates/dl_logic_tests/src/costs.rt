@@ -7,7 +7,7 @@ ghost use Rattle.dl_theory.specs.Listings.{Mentions};
 ghost use Rattle.dl_update.specs.Bound.{IsWithinCone};
 ghost use Rattle.dl_logic_tests.specs.Costs.{two_rules, fact_a, rule_c, pair_apart, rule_again};
 
-use crate::drafts::{expect_marks, is_label_there, saturated};
+use crate::drafts::{edit_draft, expect_marks, is_label_there, saturated};
 use crate::texts::{edit_of, theory_of};
 use dl_marks::Steps;
 use dl_theory::{Edit, EditStop};
@@ -27,6 +27,7 @@ const ROUNDS: u64 = 20_000;
 
 /// Makes an edit, and shows what numbers there were before.
 fn touch_known<L: Ledger>(
+    rt: &impl Abort,
     draft: &mut Draft,
     edit: &Edit,
     steps: &mut Steps<L>,
@@ -35,40 +36,56 @@ fn touch_known<L: Ledger>(
     ensures complements { (q : Literal) → Contains draft.old.names q → Contains draft.old.names (complement q) }
     ensures steps { IsWithinCone draft.old.theory draft.old.names edit.now steps.old steps.new }
 {
-    let _names = draft.net().names();
-    draft.touch(edit, steps)
+    let _names = draft.graph().names();
+    edit_draft(rt, draft, edit, steps)
 }
 
 /// A fact that two rules do not use: two literals are written anew.
-fn add_fact<L: Ledger>(draft: &mut Draft, edit: &Edit, steps: &mut Steps<L>) -> Result<(), EditStop>
+fn add_fact<L: Ledger>(
+    rt: &impl Abort,
+    draft: &mut Draft,
+    edit: &Edit,
+    steps: &mut Steps<L>,
+) -> Result<(), EditStop>
     ensures { draft.old.theory ≡ two_rules → edit.now ≡ fact_a → steps.new ≤ steps.old + 32 }
 {
-    touch_known(draft, edit, steps)
+    touch_known(rt, draft, edit, steps)
 }
 
 /// A rule for a literal that may be new.
-fn add_rule<L: Ledger>(draft: &mut Draft, edit: &Edit, steps: &mut Steps<L>) -> Result<(), EditStop>
+fn add_rule<L: Ledger>(
+    rt: &impl Abort,
+    draft: &mut Draft,
+    edit: &Edit,
+    steps: &mut Steps<L>,
+) -> Result<(), EditStop>
     ensures { draft.old.theory ≡ two_rules → edit.now ≡ rule_c → steps.new ≤ steps.old + 48 }
 {
-    touch_known(draft, edit, steps)
+    touch_known(rt, draft, edit, steps)
 }
 
 /// A pair of rules whose heads do not attack each other: nothing is written.
-fn add_pair<L: Ledger>(draft: &mut Draft, edit: &Edit, steps: &mut Steps<L>) -> Result<(), EditStop>
+fn add_pair<L: Ledger>(
+    rt: &impl Abort,
+    draft: &mut Draft,
+    edit: &Edit,
+    steps: &mut Steps<L>,
+) -> Result<(), EditStop>
     ensures { draft.old.theory ≡ two_rules → edit.now ≡ pair_apart → steps.new ≤ steps.old }
 {
-    touch_known(draft, edit, steps)
+    touch_known(rt, draft, edit, steps)
 }
 
 /// A rule whose label is there: nothing is written.
 fn add_again<L: Ledger>(
+    rt: &impl Abort,
     draft: &mut Draft,
     edit: &Edit,
     steps: &mut Steps<L>,
 ) -> Result<(), EditStop>
     ensures { draft.old.theory ≡ two_rules → edit.now ≡ rule_again → steps.new ≤ steps.old }
 {
-    touch_known(draft, edit, steps)
+    touch_known(rt, draft, edit, steps)
 }
 
 /// The draft of the two rules.
@@ -86,19 +103,34 @@ fn cost<L: Ledger>(rt: &impl Abort, alloc: Global, blank: Blank)
 {
     let mut steps = Steps::<L>::make(blank);
     let mut draft = two(rt, alloc, &mut steps);
-    let fact = add_fact(&mut draft, &edit_of(rt, alloc, "add >> a"), &mut steps);
+    let fact = add_fact(rt, &mut draft, &edit_of(rt, alloc, "add >> a"), &mut steps);
     assert!(rt; fact.is_ok());
     drop(draft);
     let mut draft = two(rt, alloc, &mut steps);
-    let rule = add_rule(&mut draft, &edit_of(rt, alloc, "add r3: => c"), &mut steps);
+    let rule = add_rule(
+        rt,
+        &mut draft,
+        &edit_of(rt, alloc, "add r3: => c"),
+        &mut steps,
+    );
     assert!(rt; rule.is_ok());
     drop(draft);
     let mut draft = two(rt, alloc, &mut steps);
-    let again = add_again(&mut draft, &edit_of(rt, alloc, "add r1: => a"), &mut steps);
+    let again = add_again(
+        rt,
+        &mut draft,
+        &edit_of(rt, alloc, "add r1: => a"),
+        &mut steps,
+    );
     assert!(rt; is_label_there(again));
-    let pair = add_pair(&mut draft, &edit_of(rt, alloc, "add r1 > r2"), &mut steps);
+    let pair = add_pair(
+        rt,
+        &mut draft,
+        &edit_of(rt, alloc, "add r1 > r2"),
+        &mut steps,
+    );
     assert!(rt; pair.is_ok());
-    assert!(rt; draft.net().pairs_len() == 1);
+    assert!(rt; draft.graph().pairs_len() == 1);
     drop(draft);
 }
 
@@ -123,9 +155,9 @@ fn come_and_go<L: Ledger>(rt: &impl Abort, alloc: Global, draft: &mut Draft, ste
     let come = edit_of(rt, alloc, "add >> z");
     let go = edit_of(rt, alloc, "drop >> z");
     for _ in 0..ROUNDS {
-        let came = draft.touch(&come, steps);
+        let came = edit_draft(rt, draft, &come, steps);
         assert!(rt; came.is_ok());
-        let went = draft.touch(&go, steps);
+        let went = edit_draft(rt, draft, &go, steps);
         assert!(rt; went.is_ok());
     }
 }
@@ -134,8 +166,8 @@ fn come_and_go<L: Ledger>(rt: &impl Abort, alloc: Global, draft: &mut Draft, ste
 fn expect_chain(rt: &impl Abort, alloc: Global, draft: &mut Draft) {
     draft.freeze().expect(rt, "room");
     let (net, marks) = draft.share().expect(rt, "room");
-    assert!(rt; net.rules_len() as u64 == RULES);
-    assert!(rt; net.facts_len() == 0);
+    assert!(rt; net.graph().rules_len() as u64 == RULES);
+    assert!(rt; net.graph().facts_len() == 0);
     expect_marks(rt, alloc, &net.graph(), &marks, &["+d p99999"]);
     drop(marks);
     drop(net);

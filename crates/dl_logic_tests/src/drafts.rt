@@ -1,15 +1,17 @@
 //! Drafts, saturated at once and edit by edit.
 
 ghost use Rattle.std.specs.Prelude.{◌≡◌, ◌<◌};
+ghost use Rattle.dl_update.specs.Bound.{IsWithinCone};
 
 use crate::editions::expect_conclusions;
 use crate::texts::{AMBIGUOUS, PENGUIN, edit_of, numbered_of, tagged_of, theory_of};
 use dl_edition::Held;
+use dl_graph::Graph;
 use dl_lit::{Family, Memory, Tag};
 use dl_marks::{Marks, Steps};
-use dl_net::Graph;
-use dl_theory::{EditRefusal, EditStop, Theory};
-use dl_update::{Draft, DraftNet, FamilyNet};
+use dl_net::Net;
+use dl_theory::{Edit, EditRefusal, EditStop, Theory};
+use dl_update::{Draft, Families};
 use std::alloc::Global;
 use std::marker::Brand;
 use std::process::Abort;
@@ -214,6 +216,21 @@ const QUAKER_CONCLUDED: [Concluded; 2] = [
     ),
 ];
 
+/// Makes an edit of a draft that keeps all families.
+pub(crate) fn edit_draft<L: Ledger>(
+    rt: &impl Abort,
+    draft: &mut Draft,
+    edit: &Edit,
+    steps: &mut Steps<L>,
+) -> Result<(), EditStop>
+    ensures { IsWithinCone draft.old.theory draft.old.names edit.now steps.old steps.new }
+{
+    match draft.families() {
+        Families::All => draft.touch(edit, steps),
+        Families::One(_) => panic!(rt; "a draft of one family takes no edits"),
+    }
+}
+
 /// Makes an edit that is accepted.
 fn touch<L: Ledger>(
     rt: &impl Abort,
@@ -223,7 +240,7 @@ fn touch<L: Ledger>(
     steps: &mut Steps<L>,
 ) {
     let edit = edit_of(rt, alloc, text);
-    let touched = draft.touch(&edit, steps);
+    let touched = edit_draft(rt, draft, &edit, steps);
     assert!(rt; touched.is_ok(), "an edit was not made");
 }
 
@@ -239,11 +256,14 @@ fn touch_all<L: Ledger>(
     }
 }
 
-/// An edition of what the draft stands for.
+/// An edition of what the draft stands for, where it keeps all families.
 pub(crate) fn edition(alloc: Global, draft: &mut Draft) -> Result<Held, Memory> {
     draft.freeze()?;
     let (net, marks) = draft.share()?;
-    Held::make(alloc, 0, net, marks)
+    match draft.families() {
+        Families::All => Held::make(alloc, 0, net, marks),
+        Families::One(_) => Err(Memory),
+    }
 }
 
 /// Compares what a draft concludes with what it is to conclude.
@@ -266,7 +286,8 @@ pub(crate) fn saturated<L: Ledger>(
     theory: &Theory,
     steps: &mut Steps<L>,
 ) -> Draft {
-    Draft::saturate(alloc, theory, steps).expect(rt, "room")
+    let net = Net::of(alloc, theory).expect(rt, "room");
+    Draft::saturate(alloc, net, Families::All, steps).expect(rt, "room")
 }
 
 /// One stage after another, from a theory on.
@@ -343,11 +364,9 @@ pub(crate) fn expect_marks(
 /// The marks of a draft of one family, and of what it shares.
 fn expect_alone<L: Ledger>(rt: &impl Abort, alloc: Global, marked: &Marked, steps: &mut Steps<L>) {
     let (family, texts) = marked;
-    let theory = numbered_of(rt, alloc, AMBIGUOUS);
-    let mut draft = Draft::<FamilyNet>::saturate_in(alloc, theory, *family, steps).expect(
-        rt, "room",
-    );
-    expect_marks(rt, alloc, &draft.net().graph(), draft.marks(), texts);
+    let net = Net::load(numbered_of(rt, alloc, AMBIGUOUS)).expect(rt, "room");
+    let mut draft = Draft::saturate(alloc, net, Families::One(*family), steps).expect(rt, "room");
+    expect_marks(rt, alloc, &draft.graph(), draft.marks(), texts);
     draft.freeze().expect(rt, "room");
     let (net, marks) = draft.share().expect(rt, "room");
     drop(draft);
@@ -364,7 +383,7 @@ fn mark_ambiguous<L: Ledger>(rt: &impl Abort, alloc: Global, blank: Blank)
     let draft = saturated(rt, alloc, &theory, &mut steps);
     for marked in AMBIGUOUS_MARKS.iter() {
         let (_, texts) = marked;
-        expect_marks(rt, alloc, &draft.net().graph(), draft.marks(), texts);
+        expect_marks(rt, alloc, &draft.graph(), draft.marks(), texts);
         expect_alone(rt, alloc, marked, &mut steps);
     }
     drop(draft);
@@ -390,7 +409,7 @@ fn refuse<L: Ledger>(rt: &impl Abort, alloc: Global, blank: Blank)
     let theory = theory_of(rt, alloc, QUAKER);
     let mut draft = saturated(rt, alloc, &theory, &mut steps);
     let edit = edit_of(rt, alloc, "add r1: hawk => -dove");
-    let there = is_label_there(draft.touch(&edit, &mut steps));
+    let there = is_label_there(edit_draft(rt, &mut draft, &edit, &mut steps));
     assert!(rt; there, "not refused");
     expect_draft(rt, alloc, &mut draft, &QUAKER_CONCLUDED);
     drop(draft);
@@ -421,4 +440,61 @@ fn share<L: Ledger>(rt: &impl Abort, alloc: Global, blank: Blank)
 #[test]
 fn what_is_shared_stays(rt: HostRuntime) {
     share::<Brand>(&rt, rt.alloc(), Blank::new(1));
+}
+
+/// Edits of the penguin's theory that change its facts, its rules and its pairs.
+const PENGUIN_EDITS: [&str; 7] = [
+    "drop >> penguin",
+    "add >> bird",
+    "drop r3 > r2",
+    "drop r3",
+    "add r4: bird => sings",
+    "add r3: sings => -flies",
+    "add r2 > r3",
+];
+
+/// What the penguin's theory answers, by numbers.
+fn expect_penguin(rt: &impl Abort, alloc: Global, net: &Graph<'_>, marks: &Marks) {
+    assert_eq!(rt; net.facts_len(), 1);
+    assert_eq!(rt; net.rules_len(), 3);
+    assert_eq!(rt; net.pairs_len(), 1);
+    assert!(rt; net.fact(0).is_some() && net.fact(1).is_none());
+    assert!(rt; net.has_rule(2) && net.pair(0).is_some());
+    expect_marks(rt, alloc, net, marks, &["+d -flies", "-d flies", "+D bird"]);
+}
+
+/// What a net answers that was shared twice before the edits of a draft, after each of them.
+fn go_on<L: Ledger>(rt: &impl Abort, alloc: Global, blank: Blank)
+    requires name { blank.name ≡ L.name }
+    requires parts { blank.parts ≡ L.parts }
+    requires some { 0 < blank.parts }
+{
+    let mut steps = Steps::<L>::make(blank);
+    let theory = theory_of(rt, alloc, PENGUIN);
+    let mut draft = saturated(rt, alloc, &theory, &mut steps);
+    draft.freeze().expect(rt, "room");
+    let (one, one_marks) = draft.share().expect(rt, "room");
+    let (two, two_marks) = draft.share().expect(rt, "room");
+    for text in PENGUIN_EDITS.iter() {
+        touch(rt, alloc, &mut draft, text, &mut steps);
+        expect_penguin(rt, alloc, &one.graph(), &one_marks);
+        expect_penguin(rt, alloc, &two.graph(), &two_marks);
+    }
+    drop(one);
+    drop(one_marks);
+    expect_penguin(rt, alloc, &two.graph(), &two_marks);
+    expect_marks(
+        rt,
+        alloc,
+        &draft.graph(),
+        draft.marks(),
+        &["-D penguin", "+d flies", "+d sings"],
+    );
+    drop(draft);
+    expect_penguin(rt, alloc, &two.graph(), &two_marks);
+}
+
+#[test]
+fn a_net_that_two_share_stays_under_edits(rt: HostRuntime) {
+    go_on::<Brand>(&rt, rt.alloc(), Blank::new(1));
 }

@@ -1,7 +1,8 @@
 //! A theory that is loaded into numbers, and what a fill reads of it.
 
-use crate::texts::edit_of;
-use dl_net::{Graph, Link, NumberedNet, NumberedTheory};
+use crate::texts::{PENGUIN as RULES, edit_of, theory_of};
+use dl_graph::{Graph, Link};
+use dl_net::{Net, NumberedTheory};
 use dl_read::read_literal;
 use dl_theory::{Edit, Loading};
 use std::alloc::Global;
@@ -49,7 +50,7 @@ fn expect_literals(rt: &impl Abort, graph: &Graph<'_>, penguin: usize, fly: usiz
 
 fn expect_rules(rt: &impl Abort, graph: &Graph<'_>, fly: usize) {
     assert_eq!(rt; graph.rules_len(), 2);
-    assert_eq!(rt; graph.head(0), fly);
+    assert!(rt; graph.has_rule(0) && graph.head(0) == fly);
     assert_eq!(rt; graph.next_len(Link::Defends, 1), 1);
     assert_eq!(rt; graph.next(Link::Defends, 1, 0), 0);
     assert_eq!(rt; graph.back_len(Link::Counters, 0), 1);
@@ -67,7 +68,39 @@ fn a_fill_reads_what_was_loaded(rt: HostRuntime) {
     let alloc = rt.alloc();
     let mut theory = NumberedTheory::make(alloc);
     load(&rt, alloc, &mut theory);
-    let net = NumberedNet::of(theory).expect(&rt, "room");
+    let net = Net::load(theory).expect(&rt, "room");
     expect_penguin(&rt, alloc, &net.graph());
+    drop(net);
+}
+
+fn make_edit(rt: &impl Abort, alloc: Global, net: &mut Net, text: &str) {
+    match net.prepare(&edit_of(rt, alloc, text)) {
+        Ok(ready) => net.commit(ready),
+        Err(_) => panic!(rt; "an edit was not made"),
+    }
+}
+
+/// How many rules there are under how many numbers, of which these have one.
+fn expect_numbers(rt: &impl Abort, graph: &Graph<'_>, rules: usize, there: &[bool]) {
+    assert_eq!(rt; graph.rules_len(), rules);
+    assert_eq!(rt; graph.rule_numbers(), there.len());
+    for number in 0..there.len() {
+        assert!(rt; graph.has_rule(number) == there[number]);
+        assert!(rt; graph.rule(number).is_some() == there[number]);
+    }
+}
+
+#[test]
+fn the_number_of_a_rule_that_went_stays_empty(rt: HostRuntime) {
+    let alloc = rt.alloc();
+    let theory = theory_of(&rt, alloc, RULES);
+    let mut net = Net::of(alloc, &theory).expect(&rt, "room");
+    expect_numbers(&rt, &net.graph(), 3, &[true, true, true]);
+    make_edit(&rt, alloc, &mut net, "drop r2");
+    expect_numbers(&rt, &net.graph(), 2, &[true, false, true]);
+    make_edit(&rt, alloc, &mut net, "add r4: penguin => swims");
+    expect_numbers(&rt, &net.graph(), 3, &[true, false, true, true]);
+    make_edit(&rt, alloc, &mut net, "add r2: bird => flies");
+    expect_numbers(&rt, &net.graph(), 4, &[true, false, true, true, true]);
     drop(net);
 }

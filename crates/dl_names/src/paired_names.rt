@@ -1,6 +1,6 @@
 //! Numbers of literals.
 
-ghost use Rattle.std.specs.Prelude.{◌≡◌, ◌<◌, ◌+◌, ◌*◌, ◌^◌, ◌++◌, ◌∷◌, [], Some, false, IfOk, IfSome, IfNone, OnOk, OnErr, IsTrue, Contains, length, position, slice_get};
+ghost use Rattle.std.specs.Prelude.{◌≡◌, ◌<◌, ◌+◌, ◌*◌, ◌^◌, ◌++◌, ◌∷◌, [], Some, IfOk, IfSome, IfNone, OnOk, OnErr, Contains, length, position, slice_get};
 ghost use Rattle.std.specs.Option.{option_map};
 ghost use Rattle.dl_base.specs.Paths.{IsDistinct};
 ghost use Rattle.dl_lit.specs.Borrowed.{literal_of};
@@ -20,15 +20,11 @@ const PAIR_LIMIT: usize = 0x8000_0000;
 /// Literals by number, each beside its complement. One look-up finds both.
 pub struct PairedNames {
     pairs: AtomPairs,
-    frozen: bool,
 }
 
 impl Drop for PairedNames {
     fn drop(self) {
-        let PairedNames {
-            pairs: _,
-            frozen: _,
-        } = self;
+        let PairedNames { pairs: _ } = self;
     }
 }
 
@@ -51,7 +47,6 @@ impl PairedNames {
     {
         PairedNames {
             pairs: AtomPairs::make(alloc),
-            frozen: false,
         }
     }
 
@@ -61,10 +56,7 @@ impl PairedNames {
     {
         let mut empty = AtomPairs::make(alloc);
         empty.reserve(pairs)?;
-        Ok(PairedNames {
-            pairs: empty,
-            frozen: false,
-        })
+        Ok(PairedNames { pairs: empty })
     }
 
     /// How many literals have numbers: all below it.
@@ -175,33 +167,17 @@ impl PairedNames {
             return Ok(None);
         }
         match self.pairs.put(literal, likely_sought)? {
-            None => Ok(None),
-            Some(place) => {
-                self.frozen = false;
-                Ok(Some(2 * place))
-            }
+            None => return Ok(None),
+            Some(place) => Ok(Some(2 * place)),
         }
     }
 
-    /// From here on the names can be shared.
-    pub fn freeze(&mut self) -> Result<(), Memory>
-        ensures literals { self.new.literals ≡ self.old.literals }
-        ensures frozen { OnOk result (IsTrue self.new.frozen) }
-    {
-        self.frozen = true;
-        Ok(())
-    }
-
-    /// The same literals at the same numbers once more, frozen. `Memory` where there is none for them.
-    pub fn share(&self) -> Result<PairedNames, Memory>
-        requires { IsTrue self.now.frozen }
+    /// The same literals at the same numbers once more. `Memory` where there is none for them.
+    pub fn copy(&self) -> Result<PairedNames, Memory>
         ensures { IfOk result (λ names. names ≡ self.now) }
     {
         let pairs = self.pairs.copy()?;
-        Ok(PairedNames {
-            pairs,
-            frozen: true,
-        })
+        Ok(PairedNames { pairs })
     }
 }
 

@@ -1,37 +1,37 @@
--- Rules by label, and what one pair adds to the rules below and above.
-use Rattle.std.proofs.Common.{◌≡◌, ◌≢◌, ℕ, zero, suc, ◌+◌, ◌<◌, ◌≤◌, ◌==◌, ◌&&◌, Bool, true, false, List, [], ◌∷◌, ◌++◌, length, get_or, set, map, replicate, refl, sym, ap, subst, ◌∙◌, arith, cond, inl, inr}
-use Rattle.std.specs.Prelude.{All, Contains, flat_map}
+-- What one pair adds to the rules below and above.
+use Rattle.std.proofs.Common.{◌≡◌, ◌≢◌, ℕ, ◌<◌, ◌==◌, ◌&&◌, Bool, true, false, Option, None, Some, List, [], ◌∷◌, ◌++◌, length, get_or, set, map, refl, sym, ap, subst, ◌∙◌, arith, cond, append-nil, inl, inr}
+use Rattle.std.specs.Prelude.{Contains, flat_map, unwrap_or, option_map}
 use Rattle.std.specs.Str.{bytes_eq}
 use Rattle.std.specs.Set.{is_member}
-use Rattle.std.proofs.Math.ListN.{length-map}
-use Rattle.std.proofs.lemmas.Bool.{cases_eq, cases_lt}
+use Rattle.std.proofs.lemmas.Bool.{cases_eq}
 use Rattle.std.proofs.lemmas.Bool.Decides.{Decides-eqb, Decides-like, same_from_decides}
-use Rattle.std.proofs.lemmas.List.{get_or-map, append-nil}
-use Rattle.std.proofs.lemmas.List.Elements.{All-head, All-tail, All-map, All-weaker, Contains-get_or}
+use Rattle.std.proofs.lemmas.List.{get_or-map, get_or_default}
 use Rattle.std.proofs.lemmas.List.Concat.{flat_map-append}
 use Rattle.std.proofs.lemmas.Slice.Eq.{bytes_eq-Decides}
 use Rattle.std.proofs.lemmas.Map.Made.{is_member-Decides}
 use Rattle.dl_base.specs.Paths.{IsDistinct}
-use Rattle.dl_base.proofs.Distinct.{distinct_head, distinct_tail}
 use Rattle.dl_base.proofs.Filters.{false_unless}
-use Rattle.dl_base.proofs.Members.{only, Contains-mapped, map_agree}
+use Rattle.dl_base.proofs.Members.{only, map_agree}
 use Rattle.dl_lit.specs.declared.literal.Literal.{Literal}
 use Rattle.dl_lit.specs.Literal.{complement, literal_eq}
 use Rattle.dl_lit.specs.Order.{literal_eq-Decides}
 use Rattle.dl_theory.specs.declared.rule.Rule.{Rule}
 use Rattle.dl_theory.specs.declared.rule.Pair.{Pair}
-use Rattle.dl_theory.specs.Lists.{TheoryLists, labels}
 use Rattle.dl_theory.specs.Tests as test
-use Rattle.dl_rows.specs.Counting.{times}
-use Rattle.dl_rows.specs.Rows.{places_from}
-use Rattle.dl_net.specs.Numbers.{no_rule, mark_row, labelled}
-use Rattle.dl_net.specs.Above.{lower_step, upper_step}
-use Rattle.dl_names.specs.Paired.{flip, IsPaired, number_in}
-use Rattle.dl_net.specs.Named.{HasLiterals, line_in}
-use Rattle.dl_rules.specs.Lines.{Line, no_line, IsWithin}
 use Rattle.dl_rows.specs.Tables.{list_of}
-use Rattle.dl_names.proofs.NameLemmas.{number_at, number_within, paired_at}
 use Rattle.dl_rows.proofs.TableLemmas.{map_changed}
+use Rattle.dl_rows.proofs.There.{has_within}
+use Rattle.dl_names.specs.Paired.{flip, IsPaired, number_in}
+use Rattle.dl_names.proofs.NameLemmas.{number_at, number_within, paired_at}
+use Rattle.dl_rules.specs.Lines.{Line, no_line, line_at}
+use Rattle.dl_graph.specs.Numbers.{NetLists, HasRule, rule_at, of_rule, labelled}
+use Rattle.dl_graph.specs.Above.{lower_step, upper_step}
+use Rattle.dl_graph.specs.Named.{line_in}
+use Rattle.dl_graph.proofs.Slots.{rule_there, there_rule}
+use Rattle.dl_graph.proofs.FindLemmas.{head_named}
+use Rattle.dl_graph.proofs.LabelLemmas.{labelled_is, label_once}
+use Rattle.dl_graph.proofs.ReadLemmas.{slot_map}
+use Rattle.dl_net.specs.Linking.{AreRules, IsPairOf}
 
 -- ---- the heads of two rules, by number
 
@@ -49,201 +49,131 @@ meets_is ls q r distinct paired mq mr =
     (λ e. (0, omega arith, sym (sym (nr.1 q) ∙ ap (λ k. get_or ls k q) e ∙ there)))
     (is_member-Decides literal_eq-Decides (complement q ∷ []) r))
 
--- ---- rules by label
+module _ (N : NetLists) (ls : List Literal) (lines : List (Option Line)) (are : AreRules N ls lines) (distinct : IsDistinct ls) (paired : IsPaired ls) where
+  line_is : (k : ℕ) → HasRule N k → line_at lines k ≡ line_in ls (rule_at N k)
+  line_is k h =
+      ap (λ (xs : List (Option Line)). line_at xs k) are.are
+      ∙ ap (λ (o : Option Line). unwrap_or o no_line)
+      (slot_map (line_in N.names) N.rules k ∙ ap (option_map (line_in N.names)) (rule_there N k h))
+      ∙ ap (λ (names : List Literal). line_in names (rule_at N k)) are.names
 
-module _ (label : List ℕ) (p : Rule → Bool) where
-  abbrev rows : Rule → List ℕ
-  rows r = mark_row (bytes_eq r.label label && p r)
+  head_known : (k : ℕ) → HasRule N k → Contains ls (rule_at N k).head
+  head_known k h = subst (λ (names : List Literal). Contains names (rule_at N k).head) are.names (head_named N are.numbered k h)
 
-  mark_times : (b v : Bool) → b ≡ true → times 0 (mark_row (b && v)) ≡ cond v 1 0
-  mark_times true true e = refl
-  mark_times true false e = refl
-  mark_times false v e = cc
+  -- the numbers tell whether one head attacks the other
+  pub meet_is : (u l : ℕ) → HasRule N u → HasRule N l
+      → ((line_at lines l).head == flip (line_at lines u).head) ≡ test.is_opposing N.theory (rule_at N u).head (rule_at N l)
+  meet_is u l hu hl =
+      (λ i. (line_is l hl i).head == flip (line_is u hu i).head)
+      ∙ meets_is ls (rule_at N u).head (rule_at N l).head distinct paired (head_known u hu) (head_known l hl)
 
-  unmarked_times : (b v : Bool) → b ≡ false → times 0 (mark_row (b && v)) ≡ 0
-  unmarked_times true v e = cc
-  unmarked_times false v e = refl
+-- ---- where a pair leads down, and where up
 
-  pub none_here : (rs : List Rule) (k : ℕ) → All (λ r. bytes_eq r.label label ≡ false) rs → places_from rows k rs 0 ≡ []
-  none_here [] k h = refl
-  none_here (r ∷ rs) k h =
-      ap (λ n. replicate n k ++ places_from rows (suc k) rs 0)
-      (unmarked_times (bytes_eq r.label label) (p r) (All-head (λ u. bytes_eq u.label label ≡ false) r rs h))
-      ∙ none_here rs (suc k) (All-tail (λ u. bytes_eq u.label label ≡ false) r rs h)
+module _ (N : NetLists) (ls : List Literal) (lines : List (Option Line)) (are : AreRules N ls lines) (p : Pair) (u l : ℕ) (pair : IsPairOf N p u l) where
+  pub lower_here : lower_step N p (rule_at N u) ≡ cond (test.is_opposing N.theory (rule_at N u).head (rule_at N l)) (l ∷ []) []
+  lower_here =
+      ap (λ b. cond b (labelled N p.lower (test.is_opposing N.theory (rule_at N u).head)) [])
+      ((bytes_eq-Decides p.upper (rule_at N u).label).1 (sym pair.upper_label))
+      ∙ labelled_is N are.numbered are.distinct p.lower (test.is_opposing N.theory (rule_at N u).head) l pair.lower_there pair.lower_label
 
-  one_here : (k : ℕ) (v : Bool) → replicate (cond v 1 0) k ++ [] ≡ cond v (k ∷ []) []
-  one_here k true = refl
-  one_here k false = refl
+  pub lower_elsewhere : (i : ℕ) → HasRule N i → i ≢ u → lower_step N p (rule_at N i) ≡ []
+  lower_elsewhere i h other =
+      ap (λ b. cond b (labelled N p.lower (test.is_opposing N.theory (rule_at N i).head)) [])
+      (false_unless (bytes_eq p.upper (rule_at N i).label) (bytes_eq-Decides p.upper (rule_at N i).label)
+      (λ e. other (label_once N are.numbered are.distinct i u h pair.upper_there (sym e ∙ sym pair.upper_label))))
 
-  -- where labels are distinct, the rule at a place is the only one with its label
-  pub place_single : (rs : List Rule) (k u : ℕ) → IsDistinct (map (λ r. r.label) rs) → u < length rs → (get_or rs u no_rule).label ≡ label
-      → places_from rows k rs 0 ≡ cond (p (get_or rs u no_rule)) ((u + k) ∷ []) []
-  place_single [] k u distinct lt e = absurd (omega (arith, lt))
-  place_single (r ∷ rs) k zero distinct lt e =
-      let others : All (λ u. bytes_eq u.label label ≡ false) rs =
-      λ j d within. false_unless (bytes_eq (get_or rs j d).label label) (bytes_eq-Decides (get_or rs j d).label label)
-      (λ same. distinct_head r.label (map (λ u. u.label) rs) distinct
-      (subst (λ (x : List ℕ). Contains (map (λ (u : Rule). u.label) rs) x) (same ∙ sym e)
-      (Contains-mapped (λ (u : Rule). u.label) rs (get_or rs j d) (Contains-get_or rs j d within)))) in
-      let at : k ≡ 0 + k = omega arith in
-      ap (λ n. replicate n k ++ places_from rows (suc k) rs 0) (mark_times (bytes_eq r.label label) (p r) ((bytes_eq-Decides r.label label).1 e))
-      ∙ ap (λ ys. replicate (cond (p r) 1 0) k ++ ys) (none_here rs (suc k) others)
-      ∙ one_here k (p r)
-      ∙ ap (λ n. cond (p r) (n ∷ []) []) at
-  place_single (r ∷ rs) k (suc u) distinct lt e =
-      let other : r.label ≢ label =
-      λ same. distinct_head r.label (map (λ u. u.label) rs) distinct
-      (subst (λ (x : List ℕ). Contains (map (λ (u : Rule). u.label) rs) x) (e ∙ sym same)
-      (Contains-mapped (λ (u : Rule). u.label) rs (get_or rs u no_rule) (Contains-get_or rs u no_rule (omega (arith, lt))))) in
-      let at : u + suc k ≡ suc u + k = omega arith in
-      ap (λ n. replicate n k ++ places_from rows (suc k) rs 0)
-      (unmarked_times (bytes_eq r.label label) (p r) (false_unless (bytes_eq r.label label) (bytes_eq-Decides r.label label) other))
-      ∙ place_single rs (suc k) u (distinct_tail r.label (map (λ u. u.label) rs) distinct) (omega (arith, lt)) e
-      ∙ ap (λ n. cond (p (get_or rs u no_rule)) (n ∷ []) []) at
+  and_true : (b : Bool) → (b && true) ≡ b
+  and_true true = refl
+  and_true false = refl
 
-module _ (T : TheoryLists) (distinct : IsDistinct (labels T)) where
-  -- the label of the rule at a place
-  pub label_at : (u : ℕ) (l : List ℕ) → u < length T.rules → get_or (labels T) u [] ≡ l → (get_or T.rules u no_rule).label ≡ l
-  label_at u l lt e = sym (get_or-map (λ (r : Rule). r.label) T.rules u no_rule [] lt) ∙ e
+  pub upper_here : upper_step N p (rule_at N l) ≡ cond (test.is_opposing N.theory (rule_at N u).head (rule_at N l)) (u ∷ []) []
+  upper_here =
+      ap (λ b. cond b (labelled N p.upper (λ t. test.is_opposing N.theory t.head (rule_at N l) && true)) [])
+      ((bytes_eq-Decides p.lower (rule_at N l).label).1 (sym pair.lower_label))
+      ∙ labelled_is N are.numbered are.distinct p.upper (λ t. test.is_opposing N.theory t.head (rule_at N l) && true) u pair.upper_there pair.upper_label
+      ∙ ap (λ b. cond b (u ∷ []) []) (and_true (test.is_opposing N.theory (rule_at N u).head (rule_at N l)))
 
-  pub labelled_is : (u : ℕ) (l : List ℕ) (p : Rule → Bool) → u < length T.rules → (get_or T.rules u no_rule).label ≡ l
-      → labelled T l p ≡ cond (p (get_or T.rules u no_rule)) (u ∷ []) []
-  labelled_is u l p lt e =
-      let at : u + 0 ≡ u = omega arith in
-      place_single l p T.rules 0 u distinct lt e ∙ ap (λ n. cond (p (get_or T.rules u no_rule)) (n ∷ []) []) at
+  pub upper_elsewhere : (i : ℕ) → HasRule N i → i ≢ l → upper_step N p (rule_at N i) ≡ []
+  upper_elsewhere i h other =
+      ap (λ b. cond b (labelled N p.upper (λ t. test.is_opposing N.theory t.head (rule_at N i) && true)) [])
+      (false_unless (bytes_eq p.lower (rule_at N i).label) (bytes_eq-Decides p.lower (rule_at N i).label)
+      (λ e. other (label_once N are.numbered are.distinct i l h pair.lower_there (sym e ∙ sym pair.lower_label))))
 
-  -- two places have one label only if they are one
-  pub labels_apart : (i u : ℕ) → i < length T.rules → u < length T.rules → i ≢ u → (get_or T.rules i no_rule).label ≢ (get_or T.rules u no_rule).label
-  labels_apart i u li lu differs e =
-      let read : (k : ℕ) → k < length T.rules → get_or (labels T) k [] ≡ (get_or T.rules k no_rule).label =
-      λ k lt. get_or-map (λ (r : Rule). r.label) T.rules k no_rule [] lt in
-      let same = read i li ∙ e ∙ sym (read u lu) in
-      elim (cases_lt i u) [
-        | inl before ↦ distinct i u [] before (omega (arith, lu, length-map T.rules (λ (r : Rule). r.label))) same
-        | inr after ↦ distinct u i [] (omega (arith, after, differs)) (omega (arith, li, length-map T.rules (λ (r : Rule). r.label))) (sym same)
-      ]
+-- ---- lists at the numbers of rules, where one changes
 
-  -- where a pair leads down, and where up
-  module _ (p : Pair) (u l : ℕ) (lu : u < length T.rules) (ll : l < length T.rules)
-      (eu : (get_or T.rules u no_rule).label ≡ p.upper) (el : (get_or T.rules l no_rule).label ≡ p.lower) where
-    pub lower_here : lower_step T p (get_or T.rules u no_rule) ≡ cond (test.is_opposing T (get_or T.rules u no_rule).head (get_or T.rules l no_rule)) (l ∷ []) []
-    lower_here =
-        ap (λ b. cond b (labelled T p.lower (test.is_opposing T (get_or T.rules u no_rule).head)) [])
-        ((bytes_eq-Decides p.upper (get_or T.rules u no_rule).label).1 (sym eu))
-        ∙ labelled_is l p.lower (test.is_opposing T (get_or T.rules u no_rule).head) ll el
+module _ (N : NetLists) (F F' : Rule → List ℕ) where
+  same_at : (i : ℕ) (o : Option Rule) → get_or N.rules i None ≡ o → (HasRule N i → F' (rule_at N i) ≡ F (rule_at N i)) → of_rule F' o ≡ of_rule F o
+  same_at i None e same = refl
+  same_at i (Some r) e same =
+      let at = there_rule N i r e in
+      subst (λ (x : Rule). F' x ≡ F x) at.1 (same at.0)
 
-    pub lower_elsewhere : (i : ℕ) → i < length T.rules → i ≢ u → lower_step T p (get_or T.rules i no_rule) ≡ []
-    lower_elsewhere i li differs =
-        ap (λ b. cond b (labelled T p.lower (test.is_opposing T (get_or T.rules i no_rule).head)) [])
-        (false_unless (bytes_eq p.upper (get_or T.rules i no_rule).label) (bytes_eq-Decides p.upper (get_or T.rules i no_rule).label)
-        (λ e. labels_apart i u li lu differs (sym e ∙ sym eu)))
+  pub slots_changed : (f : List ℕ → List ℕ) (u : ℕ) → HasRule N u → F' (rule_at N u) ≡ f (F (rule_at N u))
+      → ((i : ℕ) → HasRule N i → i ≢ u → F' (rule_at N i) ≡ F (rule_at N i))
+      → map (of_rule F') N.rules ≡ set (map (of_rule F) N.rules) u (f (list_of (map (of_rule F) N.rules) u))
+  slots_changed f u hu here other =
+      let there : get_or N.rules u None ≡ Some (rule_at N u) = rule_there N u hu in
+      let lt : u < length N.rules = has_within N.rules (rule_at N u) u there in
+      map_changed (of_rule F) (of_rule F') N.rules u None (f (list_of (map (of_rule F) N.rules) u)) lt
+      (ap (of_rule F') there ∙ here ∙ ap f (ap (of_rule F) (sym there) ∙ sym (get_or-map (of_rule F) N.rules u None [] lt)))
+      (λ i within differs. same_at i (get_or N.rules i None) refl (λ hi. other i hi differs))
 
-    and_true : (b : Bool) → (b && true) ≡ b
-    and_true true = refl
-    and_true false = refl
+  pub slots_same : ((i : ℕ) → HasRule N i → F' (rule_at N i) ≡ F (rule_at N i)) → map (of_rule F') N.rules ≡ map (of_rule F) N.rules
+  slots_same same =
+      map_agree (of_rule F') (of_rule F) N.rules
+      (λ i d within. subst (λ (o : Option Rule). of_rule F' o ≡ of_rule F o) (get_or_default N.rules i None d within)
+      (same_at i (get_or N.rules i None) refl (same i)))
 
-    pub upper_here : upper_step T p (get_or T.rules l no_rule) ≡ cond (test.is_opposing T (get_or T.rules u no_rule).head (get_or T.rules l no_rule)) (u ∷ []) []
-    upper_here =
-        ap (λ b. cond b (labelled T p.upper (λ t. test.is_opposing T t.head (get_or T.rules l no_rule) && true)) [])
-        ((bytes_eq-Decides p.lower (get_or T.rules l no_rule).label).1 (sym el))
-        ∙ labelled_is u p.upper (λ t. test.is_opposing T t.head (get_or T.rules l no_rule) && true) lu eu
-        ∙ ap (λ b. cond b (u ∷ []) []) (and_true (test.is_opposing T (get_or T.rules u no_rule).head (get_or T.rules l no_rule)))
+-- of which one gets one more number, or none
+module _ (F step : Rule → List ℕ) (N : NetLists) (k : ℕ) (there : HasRule N k) (elsewhere : (i : ℕ) → HasRule N i → i ≢ k → step (rule_at N i) ≡ []) where
+  abbrev more : Rule → List ℕ
+  more t = F t ++ step t
 
-    pub upper_elsewhere : (i : ℕ) → i < length T.rules → i ≢ l → upper_step T p (get_or T.rules i no_rule) ≡ []
-    upper_elsewhere i li differs =
-        ap (λ b. cond b (labelled T p.upper (λ t. test.is_opposing T t.head (get_or T.rules i no_rule) && true)) [])
-        (false_unless (bytes_eq p.lower (get_or T.rules i no_rule).label) (bytes_eq-Decides p.lower (get_or T.rules i no_rule).label)
-        (λ e. labels_apart i l li ll differs (sym e ∙ sym el)))
+  nothing_more : (i : ℕ) → step (rule_at N i) ≡ [] → more (rule_at N i) ≡ F (rule_at N i)
+  nothing_more i none = ap (λ (ys : List ℕ). F (rule_at N i) ++ ys) none ∙ append-nil (F (rule_at N i))
 
--- lists by rule of which one gets one more number, or none
-module _ (F step : Rule → List ℕ) (rules : List Rule) (k x : ℕ) (lt : k < length rules)
-    (elsewhere : (i : ℕ) → i < length rules → i ≢ k → step (get_or rules i no_rule) ≡ []) where
-  pub joined_step : step (get_or rules k no_rule) ≡ x ∷ []
-      → map (λ t. F t ++ step t) rules ≡ set (map F rules) k (list_of (map F rules) k ++ x ∷ [])
-  joined_step here =
-      map_changed F (λ t. F t ++ step t) rules k no_rule (list_of (map F rules) k ++ x ∷ []) lt
-      (ap (λ ys. F (get_or rules k no_rule) ++ ys) here ∙ ap (λ ys. ys ++ x ∷ []) (sym (get_or-map F rules k no_rule [] lt)))
-      (λ i li differs. ap (λ ys. F (get_or rules i no_rule) ++ ys) (elsewhere i li differs) ∙ append-nil (F (get_or rules i no_rule)))
+  joined_step : (x : ℕ) → step (rule_at N k) ≡ x ∷ []
+      → set (map (of_rule F) N.rules) k (list_of (map (of_rule F) N.rules) k ++ x ∷ []) ≡ map (of_rule more) N.rules
+  joined_step x here =
+      sym (slots_changed N F more (λ ys. ys ++ x ∷ []) k there (ap (λ (ys : List ℕ). F (rule_at N k) ++ ys) here)
+      (λ i h other. nothing_more i (elsewhere i h other)))
 
-  pub joined_none : step (get_or rules k no_rule) ≡ [] → map (λ t. F t ++ step t) rules ≡ map F rules
+  joined_none : step (rule_at N k) ≡ [] → map (of_rule F) N.rules ≡ map (of_rule more) N.rules
   joined_none here =
-      map_agree (λ t. F t ++ step t) F rules (λ i d li.
-      subst (λ (r : Rule). F r ++ step r ≡ F r) (get_or_any rules i d li)
-      (elim (cases_eq i k) [
-        | inl e ↦ ap (λ ys. F (get_or rules i no_rule) ++ ys) (ap (λ j. step (get_or rules j no_rule)) e ∙ here) ∙ append-nil (F (get_or rules i no_rule))
-        | inr differs ↦ ap (λ ys. F (get_or rules i no_rule) ++ ys) (elsewhere i li differs) ∙ append-nil (F (get_or rules i no_rule))
-      ]))
-    where
-      get_or_any : (xs : List Rule) (i : ℕ) (d : Rule) → i < length xs → get_or xs i no_rule ≡ get_or xs i d
-      get_or_any [] i d li = absurd (omega (arith, li))
-      get_or_any (y ∷ ys) zero d li = refl
-      get_or_any (y ∷ ys) (suc i) d li = get_or_any ys i d (omega (arith, li))
+      sym (slots_same N F more (λ i h. nothing_more i (elim (cases_eq i k) [
+        | inl e ↦ ap (λ j. step (rule_at N j)) e ∙ here
+        | inr other ↦ elsewhere i h other
+      ])))
 
 -- ---- one pair more
 
-module _ (T : TheoryLists) (ls : List Literal) (lines : List Line) (distinct : IsDistinct ls) (paired : IsPaired ls) (named : All (HasLiterals ls) T.rules)
-    (are : lines ≡ map (line_in ls) T.rules) where
-  pub line_is : (k : ℕ) → k < length T.rules → get_or lines k no_line ≡ line_in ls (get_or T.rules k no_rule)
-  line_is k lt = ap (λ xs. get_or xs k no_line) are ∙ get_or-map (line_in ls) T.rules k no_rule no_line lt
+module _ (N : NetLists) (ls : List Literal) (lines : List (Option Line)) (are : AreRules N ls lines) (distinct : IsDistinct ls) (paired : IsPaired ls)
+    (p : Pair) (u l : ℕ) (pair : IsPairOf N p u l) (met : Bool) (tells : met ≡ ((line_at lines l).head == flip (line_at lines u).head)) where
+  opposes : (b : Bool) → met ≡ b → test.is_opposing N.theory (rule_at N u).head (rule_at N l) ≡ b
+  opposes b e = sym (meet_is N ls lines are distinct paired u l pair.upper_there pair.lower_there) ∙ sym tells ∙ e
 
-  pub head_within : (k : ℕ) → k < length T.rules → (get_or lines k no_line).head < length ls
-  head_within k lt =
-      let at = number_within ls (get_or T.rules k no_rule).head distinct (named k no_rule lt).0 in
-      omega (arith, ap (λ (l : Line). l.head) (line_is k lt), at.0)
+  pub lowers_joined : met ≡ true → (F : Rule → List ℕ)
+      → set (map (of_rule F) N.rules) u (list_of (map (of_rule F) N.rules) u ++ l ∷ []) ≡ map (of_rule (λ t. F t ++ lower_step N p t)) N.rules
+  lowers_joined e F =
+      joined_step F (lower_step N p) N u pair.upper_there (lower_elsewhere N ls lines are p u l pair) l
+      (lower_here N ls lines are p u l pair ∙ ap (λ b. cond b (l ∷ []) []) (opposes true e))
 
-  pub meet_is : (u l : ℕ) → u < length T.rules → l < length T.rules
-      → ((get_or lines l no_line).head == flip (get_or lines u no_line).head) ≡ test.is_opposing T (get_or T.rules u no_rule).head (get_or T.rules l no_rule)
-  meet_is u l lu ll =
-      (λ i. (line_is l ll i).head == flip (line_is u lu i).head)
-      ∙ meets_is ls (get_or T.rules u no_rule).head (get_or T.rules l no_rule).head distinct paired (named u no_rule lu).0 (named l no_rule ll).0
+  pub lowers_none : met ≡ false → (F : Rule → List ℕ) → map (of_rule F) N.rules ≡ map (of_rule (λ t. F t ++ lower_step N p t)) N.rules
+  lowers_none e F =
+      joined_none F (lower_step N p) N u pair.upper_there (lower_elsewhere N ls lines are p u l pair)
+      (lower_here N ls lines are p u l pair ∙ ap (λ b. cond b (l ∷ []) []) (opposes false e))
 
-  module _ (labels_differ : IsDistinct (labels T)) (p : Pair) (u l : ℕ) (lu : u < length T.rules) (ll : l < length T.rules)
-      (eu : get_or (labels T) u [] ≡ p.upper) (el : get_or (labels T) l [] ≡ p.lower) (met : Bool)
-      (tells : met ≡ ((get_or lines l no_line).head == flip (get_or lines u no_line).head)) where
-    name_u : (get_or T.rules u no_rule).label ≡ p.upper
-    name_u = label_at T labels_differ u p.upper lu eu
+  pub uppers_joined : met ≡ true → (F : Rule → List ℕ)
+      → set (map (of_rule F) N.rules) l (list_of (map (of_rule F) N.rules) l ++ u ∷ []) ≡ map (of_rule (λ t. F t ++ upper_step N p t)) N.rules
+  uppers_joined e F =
+      joined_step F (upper_step N p) N l pair.lower_there (upper_elsewhere N ls lines are p u l pair) u
+      (upper_here N ls lines are p u l pair ∙ ap (λ b. cond b (u ∷ []) []) (opposes true e))
 
-    name_l : (get_or T.rules l no_rule).label ≡ p.lower
-    name_l = label_at T labels_differ l p.lower ll el
+  pub uppers_none : met ≡ false → (F : Rule → List ℕ) → map (of_rule F) N.rules ≡ map (of_rule (λ t. F t ++ upper_step N p t)) N.rules
+  uppers_none e F =
+      joined_none F (upper_step N p) N l pair.lower_there (upper_elsewhere N ls lines are p u l pair)
+      (upper_here N ls lines are p u l pair ∙ ap (λ b. cond b (u ∷ []) []) (opposes false e))
 
-    opposes : (b : Bool) → met ≡ b → test.is_opposing T (get_or T.rules u no_rule).head (get_or T.rules l no_rule) ≡ b
-    opposes b e = sym (meet_is u l lu ll) ∙ sym tells ∙ e
-
-    pub lowers_joined : met ≡ true → (F : Rule → List ℕ)
-        → set (map F T.rules) u (list_of (map F T.rules) u ++ l ∷ []) ≡ map (λ t. F t ++ lower_step T p t) T.rules
-    lowers_joined e F =
-        sym (joined_step F (lower_step T p) T.rules u l lu (lower_elsewhere T labels_differ p u l lu ll name_u name_l)
-        (lower_here T labels_differ p u l lu ll name_u name_l ∙ ap (λ b. cond b (l ∷ []) []) (opposes true e)))
-
-    pub lowers_none : met ≡ false → (F : Rule → List ℕ) → map F T.rules ≡ map (λ t. F t ++ lower_step T p t) T.rules
-    lowers_none e F =
-        sym (joined_none F (lower_step T p) T.rules u 0 lu (lower_elsewhere T labels_differ p u l lu ll name_u name_l)
-        (lower_here T labels_differ p u l lu ll name_u name_l ∙ ap (λ b. cond b (l ∷ []) []) (opposes false e)))
-
-    pub uppers_joined : met ≡ true → (F : Rule → List ℕ)
-        → set (map F T.rules) l (list_of (map F T.rules) l ++ u ∷ []) ≡ map (λ t. F t ++ upper_step T p t) T.rules
-    uppers_joined e F =
-        sym (joined_step F (upper_step T p) T.rules l u ll (upper_elsewhere T labels_differ p u l lu ll name_u name_l)
-        (upper_here T labels_differ p u l lu ll name_u name_l ∙ ap (λ b. cond b (u ∷ []) []) (opposes true e)))
-
-    pub uppers_none : met ≡ false → (F : Rule → List ℕ) → map F T.rules ≡ map (λ t. F t ++ upper_step T p t) T.rules
-    uppers_none e F =
-        sym (joined_none F (upper_step T p) T.rules l 0 ll (upper_elsewhere T labels_differ p u l lu ll name_u name_l)
-        (upper_here T labels_differ p u l lu ll name_u name_l ∙ ap (λ b. cond b (u ∷ []) []) (opposes false e)))
-
-pub flat_map-push : {X A : Type 0} (f : X → List A) (xs : List X) (x : X) → flat_map f (xs ++ x ∷ []) ≡ flat_map f xs ++ f x
-flat_map-push f xs x = flat_map-append f xs (x ∷ []) ∙ ap (λ ys. flat_map f xs ++ ys) (append-nil (f x))
-
--- the numbers of literals that are there are those of names
-pub numbers_within : (ls : List Literal) (w : ℕ) (qs : List Literal) → IsDistinct ls → All (Contains ls) qs → length ls ≤ w
-    → All (λ b. b < w) (map (number_in ls) qs)
-numbers_within ls w qs distinct there wide =
-    All-map (λ b. b < w) (number_in ls) qs
-    (All-weaker (Contains ls) (λ q. number_in ls q < w) (λ q m. let at = number_within ls q distinct m in omega (arith, at.0, wide)) qs there)
-
--- so are those of a rule's literals
-pub line_within : (ls : List Literal) (w : ℕ) (r : Rule) → IsDistinct ls → HasLiterals ls r → length ls ≤ w → IsWithin w (line_in ls r)
-line_within ls w r distinct h wide = (
-  (let at = number_within ls r.head distinct h.0 in omega (arith, at.0, wide)),
-  numbers_within ls w r.body distinct h.1 wide,
-)
+-- what one more member adds to a list of lists
+pub flat_map-push : {X : Type 0} (f : X → List ℕ) (xs : List X) (x : X) → flat_map f (xs ++ x ∷ []) ≡ flat_map f xs ++ f x
+flat_map-push f xs x = flat_map-append f xs (x ∷ []) ∙ ap (λ (ys : List ℕ). flat_map f xs ++ ys) (append-nil (f x))

@@ -1,128 +1,146 @@
--- What stands below and above the rules when a rule goes, or a pair.
-use Rattle.std.proofs.Common.{◌≡◌, ◌≢◌, ℕ, zero, suc, ◌+◌, ◌-◌, ◌<◌, ◌≤◌, ◌==◌, ◌&&◌, ◌||◌, Bool, true, false, not, cond, List, [], ◌∷◌, ◌++◌, length, get_or, set, map, replicate, refl, sym, ap, ◌∙◌, arith, inl, inr}
-use Rattle.std.specs.Prelude.{Contains, filter, remove, flat_map}
+-- Tables of which a rule went.
+use Rattle.std.proofs.Common.{◌≡◌, ◌≢◌, ◌+◌, ◌<◌, ◌==◌, ◌&&◌, ◌||◌, ◌⊎◌, ℕ, zero, suc, Bool, true, false, not, cond, Option, None, Some, List, [], ◌∷◌, ◌++◌, length, get_or, set, map, replicate, refl, sym, ap, subst, ◌∙◌, inl, inr, arith}
+use Rattle.std.specs.Prelude.{All, is_some, filter, flat_map, option_map}
 use Rattle.std.specs.Str.{bytes_eq}
-use Rattle.std.proofs.lemmas.Bool.{lt-ltb, le-ltb}
-use Rattle.std.proofs.lemmas.List.{map-append, get_or-map}
-use Rattle.std.proofs.lemmas.Simd.{map-map}
-use Rattle.std.proofs.lemmas.List.Elements.{All-contains, Contains-append_cases, filter-append, filter_passes}
+use Rattle.std.proofs.Math.ListN.{length-set}
+use Rattle.std.proofs.lemmas.Bool.Decides.{Decides-eqb, Decides-like, same_from_decides}
+use Rattle.std.proofs.lemmas.List.{map-set}
+use Rattle.std.proofs.lemmas.List.Elements.{All-filter, filter-append}
 use Rattle.std.proofs.lemmas.Slice.Eq.{bytes_eq-Decides}
 use Rattle.dl_base.specs.Paths.{IsDistinct}
-use Rattle.dl_base.proofs.Filters.{remove_is_filter, map-remove, false_unless}
-use Rattle.dl_base.proofs.Members.{map_agree, only}
+use Rattle.dl_base.proofs.Filters.{false_unless}
 use Rattle.dl_lit.specs.declared.literal.Literal.{Literal}
+use Rattle.dl_sup.specs.declared.link.Link.{Link}
+use Rattle.dl_sup.specs.Links.{names_item}
 use Rattle.dl_theory.specs.declared.rule.Rule.{Rule}
 use Rattle.dl_theory.specs.declared.rule.Pair.{Pair}
-use Rattle.dl_theory.specs.declared.edit.Edit.TheVariants.{DropRule, DropPair}
-use Rattle.dl_theory.specs.Lists.{TheoryLists, labels}
-use Rattle.dl_theory.specs.Edits.{after_edit}
-use Rattle.dl_theory.specs.Pairs.{pair_eq, pair_eq-Decides}
+use Rattle.dl_theory.specs.declared.edit.Edit.TheVariants.{DropRule}
+use Rattle.dl_theory.specs.Lists.{TheoryLists, IsWellFormed, labels}
+use Rattle.dl_theory.specs.Pairs.{named}
+use Rattle.dl_theory.specs.Edits.{IsAccepted, after_edit}
 use Rattle.dl_theory.specs.Tests as test
+use Rattle.dl_theory.proofs.WellFormed.{edit_keeps}
 use Rattle.dl_rows.specs.Counting.{times}
 use Rattle.dl_rows.specs.Rows.{places_from}
-use Rattle.dl_net.specs.Numbers.{no_rule, mark_row, labelled, lowers_row, uppers_row}
-use Rattle.dl_net.specs.Named.{line_in}
-use Rattle.dl_rows.specs.Tables.{drop_item, list_of}
-use Rattle.dl_net.specs.KeptNet.{HasIndex, numbered}
-use Rattle.dl_net.specs.Above.{lower_step, upper_step}
-use Rattle.dl_rules.specs.Lines.{Line, IndexLists, place_without, list_without}
+use Rattle.dl_rows.specs.Tables.{drop_item}
+use Rattle.dl_rows.specs.There.{there, HasNumber, kept_if}
 use Rattle.dl_rows.proofs.NumberLists.{alike, differ}
-use Rattle.dl_net.proofs.AboveLemmas.{none_here, lower_here, lower_elsewhere, upper_here, upper_elsewhere}
-use Rattle.dl_rows.proofs.TableLemmas.{map_changed}
-use Rattle.dl_rules.proofs.TakeLemmas.{drop_idle}
-use Rattle.dl_rules.proofs.RuleLemmas.{All-by_member}
+use Rattle.dl_rows.proofs.There.{drop_has, one_goes, there_filter}
+use Rattle.dl_rules.specs.Lines.{Line, IndexLists, IsThere}
+use Rattle.dl_rules.proofs.ThereLemmas.{there_is, there_left}
+use Rattle.dl_graph.specs.Numbers.{NetLists, IsNumbered, HasRule, rule_at, of_rule, mark_row, labelled, lowers_row, uppers_row}
+use Rattle.dl_graph.specs.Above.{lower_step, upper_step}
+use Rattle.dl_graph.specs.Named.{HasLiterals, line_in}
+use Rattle.dl_graph.specs.Tables.{TableLists, AreTables, HasTables, rules_from, rules_of, pairs_of, theory_of, net_of}
+use Rattle.dl_graph.proofs.Slots.{there_rule}
+use Rattle.dl_graph.proofs.LabelLemmas.{label_once, labelled_is}
+use Rattle.dl_graph.proofs.TableLemmas.{label_here, rule_is_there}
+use Rattle.dl_net.proofs.NetLemmas.{names_distinct, numbered_by}
 
--- ---- places when one goes
+-- ---- places when a number becomes empty
 
-pub list_without-append : (k : ℕ) (xs ys : List ℕ) → list_without k (xs ++ ys) ≡ list_without k xs ++ list_without k ys
-list_without-append k xs ys =
-    ap (map (place_without k)) (filter-append (λ x. not (x == k)) xs ys)
-    ∙ map-append (place_without k) (filter (λ x. not (x == k)) xs) (filter (λ x. not (x == k)) ys)
+pub drop_item-append : (k : ℕ) (xs ys : List ℕ) → drop_item k (xs ++ ys) ≡ drop_item k xs ++ drop_item k ys
+drop_item-append k xs ys = filter-append (λ y. not (y == k)) xs ys
 
-without_step : (k y m : ℕ) (ys zs : List ℕ) (b : Bool) → b ≡ true → place_without k y ≡ m → map (place_without k) ys ≡ zs
-    → map (place_without k) (cond b (y ∷ ys) ys) ≡ m ∷ zs
-without_step k y m ys zs true e here rest = λ i. here i ∷ rest i
-without_step k y m ys zs false e here rest = cc
+drop_same : (n k : ℕ) → drop_item k (replicate n k) ≡ []
+drop_same zero k = refl
+drop_same (suc n) k = ap (λ b. cond (not b) (k ∷ drop_item k (replicate n k)) (drop_item k (replicate n k))) (alike k k refl) ∙ drop_same n k
 
-without_same : (n k : ℕ) → list_without k (replicate n k) ≡ []
-without_same zero k = refl
-without_same (suc n) k =
-    ap (λ b. map (place_without k) (cond (not b) (k ∷ filter (λ x. not (x == k)) (replicate n k)) (filter (λ x. not (x == k)) (replicate n k)))) (alike k k refl)
-    ∙ without_same n k
+drop_other : (n j k : ℕ) → j ≢ k → drop_item k (replicate n j) ≡ replicate n j
+drop_other zero j k apart = refl
+drop_other (suc n) j k apart =
+    ap (λ b. cond (not b) (j ∷ drop_item k (replicate n j)) (drop_item k (replicate n j))) (differ j k apart)
+    ∙ ap (λ (xs : List ℕ). j ∷ xs) (drop_other n j k apart)
 
-without_other : (n j k m : ℕ) → j ≢ k → place_without k j ≡ m → list_without k (replicate n j) ≡ replicate n m
-without_other zero j k m apart here = refl
-without_other (suc n) j k m apart here =
-    without_step k j m (filter (λ x. not (x == k)) (replicate n j)) (replicate n m) (not (j == k)) (ap not (differ j k apart)) here
-    (without_other n j k m apart here)
+module _ {X : Type 0} (f : Option X → List ℕ) (q : ℕ) (none : f None ≡ []) where
+  places_behind : (xs : List (Option X)) (j k : ℕ) → k < j → drop_item k (places_from f j xs q) ≡ places_from f j xs q
+  places_behind [] j k lt = refl
+  places_behind (x ∷ xs) j k lt =
+      drop_item-append k (replicate (times q (f x)) j) (places_from f (suc j) xs q)
+      ∙ (λ i. drop_other (times q (f x)) j k (λ e. absurd (omega (arith, e, lt))) i ++ places_behind xs (suc j) k (omega (arith, lt)) i)
 
-module _ {X : Type 0} (f : X → List ℕ) (q : ℕ) where
-  -- those behind the one that goes move up
-  places_behind : (xs : List X) (j k : ℕ) → k ≤ j → list_without k (places_from f (suc j) xs q) ≡ places_from f j xs q
-  places_behind [] j k le = refl
-  places_behind (x ∷ xs) j k le =
-      let back : place_without k (suc j) ≡ j = ap (λ b. cond b (suc j) (suc j - 1)) (le-ltb (suc j) k (omega (arith, le))) ∙ omega arith in
-      list_without-append k (replicate (times q (f x)) (suc j)) (places_from f (suc (suc j)) xs q)
-      ∙ (λ i. without_other (times q (f x)) (suc j) k j (λ e. absurd (omega (arith, e, le))) back i ++ places_behind xs (suc j) k (omega (arith, le)) i)
+  pub places_emptied : (xs : List (Option X)) (j k : ℕ) → places_from f j (set xs k None) q ≡ drop_item (j + k) (places_from f j xs q)
+  places_emptied [] j k = refl
+  places_emptied (x ∷ xs) j zero =
+      let at : j ≡ j + 0 = omega arith in
+      ap (λ (ys : List ℕ). replicate (times q ys) j ++ places_from f (suc j) xs q) none
+      ∙ sym (drop_item-append j (replicate (times q (f x)) j) (places_from f (suc j) xs q)
+      ∙ (λ i. drop_same (times q (f x)) j i ++ places_behind xs (suc j) j (omega arith) i))
+      ∙ ap (λ n. drop_item n (places_from f j (x ∷ xs) q)) at
+  places_emptied (x ∷ xs) j (suc k) =
+      let at : suc j + k ≡ j + suc k = omega arith in
+      ap (λ (ys : List ℕ). replicate (times q (f x)) j ++ ys) (places_emptied xs (suc j) k ∙ ap (λ n. drop_item n (places_from f (suc j) xs q)) at)
+      ∙ sym (drop_item-append (j + suc k) (replicate (times q (f x)) j) (places_from f (suc j) xs q)
+      ∙ ap (λ (ys : List ℕ). ys ++ drop_item (j + suc k) (places_from f (suc j) xs q)) (drop_other (times q (f x)) j (j + suc k) (λ e. absurd (omega (arith, e)))))
 
-  pub places_left : (xs : List X) (j k : ℕ) → k < length xs → list_without (j + k) (places_from f j xs q) ≡ places_from f j (remove xs k) q
-  places_left [] j k lt = absurd (omega (arith, lt))
-  places_left (x ∷ xs) j zero lt =
-      let at : j + 0 ≡ j = omega arith in
-      ap (λ n. list_without n (places_from f j (x ∷ xs) q)) at
-      ∙ list_without-append j (replicate (times q (f x)) j) (places_from f (suc j) xs q)
-      ∙ (λ i. without_same (times q (f x)) j i ++ places_behind xs j j (omega arith) i)
-  places_left (x ∷ xs) j (suc k) lt =
-      let at : j + suc k ≡ suc j + k = omega arith in
-      let kept : place_without (j + suc k) j ≡ j = ap (λ b. cond b j (j - 1)) (lt-ltb j (j + suc k) (omega arith)) in
-      list_without-append (j + suc k) (replicate (times q (f x)) j) (places_from f (suc j) xs q)
-      ∙ (λ i. without_other (times q (f x)) j (j + suc k) j (λ e. absurd (omega (arith, e))) kept i
-      ++ (ap (λ n. list_without n (places_from f (suc j) xs q)) at ∙ places_left xs (suc j) k (omega (arith, lt))) i)
-
--- ---- pairs when those that name a label go
+-- ---- pairs when some go
 
 -- what the pairs that are left lead to is what all led to, without the rule that goes
-module _ (k : ℕ) (keep : Pair → Bool) (g g' : Pair → List ℕ) (moved : (p : Pair) → list_without k (g p) ≡ g' p) (ended : (p : Pair) → keep p ≡ false → g' p ≡ []) where
+module _ (k : ℕ) (keep : Pair → Bool) (g g' : Pair → List ℕ) (moved : (p : Pair) → drop_item k (g p) ≡ g' p) (ended : (p : Pair) → keep p ≡ false → g' p ≡ []) where
   step_left : (p : Pair) (ps : List Pair) (b : Bool) → keep p ≡ b → g' p ++ flat_map g' (filter keep ps) ≡ flat_map g' (cond b (p ∷ filter keep ps) (filter keep ps))
   step_left p ps true e = refl
   step_left p ps false e = ap (λ xs. xs ++ flat_map g' (filter keep ps)) (ended p e)
 
-  pub pairs_left : (ps : List Pair) → list_without k (flat_map g ps) ≡ flat_map g' (filter keep ps)
+  pub pairs_left : (ps : List Pair) → drop_item k (flat_map g ps) ≡ flat_map g' (filter keep ps)
   pairs_left [] = refl
   pairs_left (p ∷ ps) =
-      list_without-append k (g p) (flat_map g ps)
+      drop_item-append k (g p) (flat_map g ps)
       ∙ (λ i. moved p i ++ pairs_left ps i)
       ∙ step_left p ps (keep p) refl
 
-module _ (T : TheoryLists) (distinct : IsDistinct (labels T)) (label : List ℕ) (k : ℕ) (lt : k < length T.rules) (named : get_or (labels T) k [] ≡ label) where
+-- lists of which one is written, whatever it was
+set_agree : {X Y : Type 0} (f g : X → Y) (xs : List X) (k : ℕ) (y : Y) (d : X) → ((i : ℕ) → i < length xs → i ≢ k → f (get_or xs i d) ≡ g (get_or xs i d))
+    → set (map f xs) k y ≡ set (map g xs) k y
+set_agree f g [] k y d h = refl
+set_agree {X} {Y} f g (x ∷ xs) zero y d h =
+    ap (λ (ys : List Y). y ∷ ys) (agree xs (λ i lt. h (suc i) (omega (arith, lt)) (λ e. absurd (omega (arith, e)))))
+  where
+    agree : (zs : List X) → ((i : ℕ) → i < length zs → f (get_or zs i d) ≡ g (get_or zs i d)) → map f zs ≡ map g zs
+    agree [] h = refl
+    agree (z ∷ zs) h = λ i. h 0 (omega arith) i ∷ agree zs (λ n lt. h (suc n) (omega (arith, lt))) i
+set_agree f g (x ∷ xs) (suc k) y d h =
+    λ i. h 0 (omega arith) (λ e. absurd (omega (arith, e))) i
+    ∷ set_agree f g xs k y d (λ n lt apart. h (suc n) (omega (arith, lt)) (λ e. apart (omega (arith, e)))) i
+
+-- ---- a rule that goes
+
+module _ (N : NetLists) (numbered : IsNumbered N) (distinct : IsDistinct (labels N.theory)) (label : List ℕ) (k : ℕ) (has : HasRule N k)
+    (is : (rule_at N k).label ≡ label) where
   abbrev keeps : Pair → Bool
   keeps p = not (bytes_eq p.upper label || bytes_eq p.lower label)
 
-  pub rules_left : (after_edit T (DropRule label)).rules ≡ remove T.rules k
-  rules_left =
-      sym (remove_is_filter (λ (r : Rule). r.label) bytes_eq bytes_eq-Decides label T.rules k no_rule distinct lt
-      (sym (get_or-map (λ (r : Rule). r.label) T.rules k no_rule [] lt) ∙ named))
+  abbrev left : NetLists
+  left = record N { theory = after_edit N.theory (DropRule label); rules = set N.rules k None; pairs = map (kept_if keeps) N.pairs }
 
-  labelled_left : (l : List ℕ) (p : Rule → Bool) → list_without k (labelled T l p) ≡ labelled (after_edit T (DropRule label)) l p
+  -- only the rule with the number has the label
+  other_label : (n : ℕ) (r : Rule) → HasNumber N.rules r n → n ≢ k → r.label ≢ label
+  other_label n r at apart e =
+      let there = there_rule N n r at in
+      apart (label_once N numbered distinct n k there.0 has (ap (λ (s : Rule). s.label) there.1 ∙ e ∙ sym is))
+
+  pub rules_left : set N.rules k None ≡ map (kept_if (λ r. not (bytes_eq r.label label))) N.rules
+  rules_left =
+      one_goes (λ r. not (bytes_eq r.label label)) N.rules k
+      (λ r at.
+      ap not ((bytes_eq-Decides r.label label).1 (sym (ap (λ (s : Rule). s.label) (there_rule N k r at).1) ∙ is)))
+      (λ r n at apart. ap not (false_unless (bytes_eq r.label label) (bytes_eq-Decides r.label label) (other_label n r at apart)))
+
+  labelled_left : (l : List ℕ) (p : Rule → Bool) → drop_item k (labelled N l p) ≡ labelled left l p
   labelled_left l p =
       let at : k ≡ 0 + k = omega arith in
-      ap (λ n. list_without n (labelled T l p)) at
-      ∙ places_left (λ (r : Rule). mark_row (bytes_eq r.label l && p r)) 0 T.rules 0 k lt
-      ∙ ap (λ (rs : List Rule). places_from (λ r. mark_row (bytes_eq r.label l && p r)) 0 rs 0) (sym rules_left)
+      ap (λ n. drop_item n (labelled N l p)) at
+      ∙ sym (places_emptied (of_rule (λ r. mark_row (bytes_eq r.label l && p r))) 0 refl N.rules 0 k)
 
   -- no rule that is left has the label
-  gone_label : (p : Rule → Bool) → labelled (after_edit T (DropRule label)) label p ≡ []
+  gone_label : (p : Rule → Bool) → labelled left label p ≡ []
   gone_label p =
-      none_here label p (after_edit T (DropRule label)).rules 0
-      (λ j d within. not_back (bytes_eq (get_or (after_edit T (DropRule label)).rules j d).label label)
-      (filter_passes (λ r. not (bytes_eq r.label label)) T.rules j d within))
+      sym (labelled_left label p) ∙ ap (drop_item k) (labelled_is N numbered distinct label p k has is) ∙ one (p (rule_at N k))
     where
-      not_back : (b : Bool) → not b ≡ true → b ≡ false
-      not_back true e = cc
-      not_back false e = refl
+      one : (b : Bool) → drop_item k (cond b (k ∷ []) []) ≡ []
+      one true = ap (λ b. cond (not b) (k ∷ []) []) (alike k k refl)
+      one false = refl
 
-  by_label : (b : Bool) (l : List ℕ) (p : Rule → Bool)
-      → list_without k (cond b (labelled T l p) []) ≡ cond b (labelled (after_edit T (DropRule label)) l p) []
+  by_label : (b : Bool) (l : List ℕ) (p : Rule → Bool) → drop_item k (cond b (labelled N l p) []) ≡ cond b (labelled left l p) []
   by_label true l p = labelled_left l p
   by_label false l p = refl
 
@@ -136,200 +154,193 @@ module _ (T : TheoryLists) (distinct : IsDistinct (labels T)) (label : List ℕ)
   ended_by P false true e one two = two refl
   ended_by P false false e one two = cc
 
-  other_label : (t : Rule) → Contains (after_edit T (DropRule label)).rules t → t.label ≢ label
-  other_label t m e =
-      let passes : not (bytes_eq t.label label) ≡ true =
-      All-contains (λ r. not (bytes_eq r.label label) ≡ true) (after_edit T (DropRule label)).rules t (filter_passes (λ r. not (bytes_eq r.label label)) T.rules) m in
-      let same : bytes_eq t.label label ≡ true = (bytes_eq-Decides t.label label).1 e in
-      cc
+  lower_left : (t : Rule) → t.label ≢ label → drop_item k (lowers_row N t) ≡ lowers_row left t
+  lower_left t apart =
+      pairs_left k keeps (λ p. lower_step N p t) (λ p. lower_step left p t)
+      (λ p. by_label (bytes_eq p.upper t.label) p.lower (test.is_opposing N.theory t.head))
+      (λ p e. ended_by (lower_step left p t ≡ []) (bytes_eq p.upper label) (bytes_eq p.lower label) e
+      (λ up. ap (λ b. cond b (labelled left p.lower (test.is_opposing N.theory t.head)) [])
+      (false_unless (bytes_eq p.upper t.label) (bytes_eq-Decides p.upper t.label) (λ same. apart (sym same ∙ (bytes_eq-Decides p.upper label).0 up))))
+      (λ low. none_by (bytes_eq p.upper t.label) (labelled left p.lower (test.is_opposing N.theory t.head))
+      (ap (λ l. labelled left l (test.is_opposing N.theory t.head)) ((bytes_eq-Decides p.lower label).0 low)
+      ∙ gone_label (test.is_opposing N.theory t.head))))
+      N.theory.pairs
 
-  pub lower_left : (t : Rule) → Contains (after_edit T (DropRule label)).rules t
-      → list_without k (flat_map (λ p. lower_step T p t) T.pairs)
-      ≡ flat_map (λ p. lower_step (after_edit T (DropRule label)) p t) (after_edit T (DropRule label)).pairs
-  lower_left t m =
-      pairs_left k keeps (λ p. lower_step T p t) (λ p. lower_step (after_edit T (DropRule label)) p t)
-      (λ p. by_label (bytes_eq p.upper t.label) p.lower (test.is_opposing T t.head))
-      (λ p e. ended_by (lower_step (after_edit T (DropRule label)) p t ≡ []) (bytes_eq p.upper label) (bytes_eq p.lower label) e
-      (λ up. ap (λ b. cond b (labelled (after_edit T (DropRule label)) p.lower (test.is_opposing T t.head)) [])
-      (false_unless (bytes_eq p.upper t.label) (bytes_eq-Decides p.upper t.label)
-      (λ same. other_label t m (sym same ∙ (bytes_eq-Decides p.upper label).0 up))))
-      (λ low. none_by (bytes_eq p.upper t.label) (labelled (after_edit T (DropRule label)) p.lower (test.is_opposing T t.head))
-      (ap (λ l. labelled (after_edit T (DropRule label)) l (test.is_opposing T t.head)) ((bytes_eq-Decides p.lower label).0 low)
-      ∙ gone_label (test.is_opposing T t.head))))
-      T.pairs
-
-  pub upper_left : (u : Rule) → Contains (after_edit T (DropRule label)).rules u
-      → list_without k (flat_map (λ p. upper_step T p u) T.pairs)
-      ≡ flat_map (λ p. upper_step (after_edit T (DropRule label)) p u) (after_edit T (DropRule label)).pairs
-  upper_left u m =
-      let over : Rule → Bool = λ t. test.is_opposing T t.head u && true in
-      pairs_left k keeps (λ p. upper_step T p u) (λ p. upper_step (after_edit T (DropRule label)) p u)
+  upper_left : (u : Rule) → u.label ≢ label → drop_item k (uppers_row N (λ _. true) u) ≡ uppers_row left (λ _. true) u
+  upper_left u apart =
+      let over : Rule → Bool = λ t. test.is_opposing N.theory t.head u && true in
+      pairs_left k keeps (λ p. upper_step N p u) (λ p. upper_step left p u)
       (λ p. by_label (bytes_eq p.lower u.label) p.upper over)
-      (λ p e. ended_by (upper_step (after_edit T (DropRule label)) p u ≡ []) (bytes_eq p.upper label) (bytes_eq p.lower label) e
-      (λ up. none_by (bytes_eq p.lower u.label) (labelled (after_edit T (DropRule label)) p.upper over)
-      (ap (λ l. labelled (after_edit T (DropRule label)) l over) ((bytes_eq-Decides p.upper label).0 up) ∙ gone_label over))
-      (λ low. ap (λ b. cond b (labelled (after_edit T (DropRule label)) p.upper over) [])
-      (false_unless (bytes_eq p.lower u.label) (bytes_eq-Decides p.lower u.label)
-      (λ same. other_label u m (sym same ∙ (bytes_eq-Decides p.lower label).0 low)))))
-      T.pairs
+      (λ p e. ended_by (upper_step left p u ≡ []) (bytes_eq p.upper label) (bytes_eq p.lower label) e
+      (λ up. none_by (bytes_eq p.lower u.label) (labelled left p.upper over)
+      (ap (λ l. labelled left l over) ((bytes_eq-Decides p.upper label).0 up) ∙ gone_label over))
+      (λ low. ap (λ b. cond b (labelled left p.upper over) [])
+      (false_unless (bytes_eq p.lower u.label) (bytes_eq-Decides p.lower u.label) (λ same. apart (sym same ∙ (bytes_eq-Decides p.lower label).0 low)))))
+      N.theory.pairs
 
   -- the lists at the rules that are left
-  module _ (F : Rule → List ℕ) (F' : Rule → List ℕ) (rows : (t : Rule) → Contains (after_edit T (DropRule label)).rules t → list_without k (F t) ≡ F' t) where
-    pub rows_left : map (list_without k) (remove (map F T.rules) k) ≡ map F' (after_edit T (DropRule label)).rules
-    rows_left =
-        ap (map (list_without k)) (sym (map-remove F T.rules k) ∙ ap (map F) (sym rules_left))
-        ∙ map-map (list_without k) F (after_edit T (DropRule label)).rules
-        ∙ map_agree (λ t. list_without k (F t)) F' (after_edit T (DropRule label)).rules
-        (All-by_member (λ t. list_without k (F t) ≡ F' t) (after_edit T (DropRule label)).rules rows)
+  module _ (F F' : Rule → List ℕ) (rows : (t : Rule) → t.label ≢ label → drop_item k (F t) ≡ F' t) where
+    slot_left : (n : ℕ) (o : Option Rule) → get_or N.rules n None ≡ o → n ≢ k → drop_item k (of_rule F o) ≡ of_rule F' o
+    slot_left n None at apart = refl
+    slot_left n (Some t) at apart = rows t (other_label n t at apart)
 
-  -- the index of what is left
-  pub index_left : (ls : List Literal) (x x' : IndexLists) → HasIndex (numbered T ls) x → x'.lines ≡ remove x.lines k
-      → x'.lowers ≡ map (list_without k) (remove x.lowers k) → x'.uppers ≡ map (list_without k) (remove x.uppers k)
-      → HasIndex (numbered (after_edit T (DropRule label)) ls) x'
-  index_left ls x x' h lines lowers uppers = record {
-    lines = lines ∙ ap (λ (ys : List Line). remove ys k) h.lines ∙ sym (map-remove (line_in ls) T.rules k) ∙ ap (map (line_in ls)) (sym rules_left);
-    lowers = lowers ∙ ap (λ (ys : List (List ℕ)). map (list_without k) (remove ys k)) h.lowers
-        ∙ rows_left (lowers_row (numbered T ls)) (lowers_row (numbered (after_edit T (DropRule label)) ls)) lower_left;
-    uppers = uppers ∙ ap (λ (ys : List (List ℕ)). map (list_without k) (remove ys k)) h.uppers
-        ∙ rows_left (uppers_row (numbered T ls) (λ _. true)) (uppers_row (numbered (after_edit T (DropRule label)) ls) (λ _. true)) upper_left;
+    pub rows_left : (xs : List (List ℕ)) → xs ≡ map (of_rule F) N.rules → set (map (drop_item k) xs) k [] ≡ map (of_rule F') (set N.rules k None)
+    rows_left xs are =
+        ap (λ (ys : List (List ℕ)). set (map (drop_item k) ys) k []) are
+        ∙ ap (λ (ys : List (List ℕ)). set ys k []) (mapped N.rules)
+        ∙ set_agree (λ o. drop_item k (of_rule F o)) (of_rule F') N.rules k [] None (λ n lt apart. slot_left n (get_or N.rules n None) refl apart)
+        ∙ sym (map-set (of_rule F') N.rules k None)
+      where
+        mapped : (rs : List (Option Rule)) → map (drop_item k) (map (of_rule F) rs) ≡ map (λ o. drop_item k (of_rule F o)) rs
+        mapped [] = refl
+        mapped (r ∷ rs) = ap (λ (ys : List (List ℕ)). drop_item k (of_rule F r) ∷ ys) (mapped rs)
+
+  pub lowers_left : (xs : List (List ℕ)) → xs ≡ map (of_rule (lowers_row N)) N.rules → set (map (drop_item k) xs) k [] ≡ map (of_rule (lowers_row left)) left.rules
+  lowers_left = rows_left (lowers_row N) (lowers_row left) lower_left
+
+  pub uppers_left : (xs : List (List ℕ)) → xs ≡ map (of_rule (uppers_row N (λ _. true))) N.rules
+      → set (map (drop_item k) xs) k [] ≡ map (of_rule (uppers_row left (λ _. true))) left.rules
+  uppers_left = rows_left (uppers_row N (λ _. true)) (uppers_row left (λ _. true)) upper_left
+
+-- ---- tables without the rule
+
+rules_emptied : (ls : List Literal) (labels : List (List ℕ)) (lines : List (Option Line)) (k : ℕ) → rules_from ls labels (set lines k None) ≡ set (rules_from ls labels lines) k None
+rules_emptied ls [] lines k = refl
+rules_emptied ls (label ∷ labels) [] k = refl
+rules_emptied ls (label ∷ labels) (l ∷ lines) zero = refl
+rules_emptied ls (label ∷ labels) (l ∷ lines) (suc k) = ap (λ (rs : List (Option Rule)). rules_from ls (label ∷ []) (l ∷ []) ++ rs) (rules_emptied ls labels lines k)
+
+-- what stays passes
+kept_passes : {A : Type 0} (p : A → Bool) (xs : List (Option A)) (x : A) (n : ℕ) → HasNumber (map (kept_if p) xs) x n → HasNumber xs x n × (p x ≡ true)
+kept_passes p [] x n h = cc
+kept_passes p (None ∷ xs) x zero h = cc
+kept_passes {A} p (Some y ∷ xs) x zero h = by (p y) refl h
+  where
+    by : (b : Bool) → p y ≡ b → cond b (Some y) None ≡ Some x → (Some y ≡ Some x) × (p x ≡ true)
+    by true e is = let same : y ≡ x = cc in (is, subst (λ (z : A). p z ≡ true) same e)
+    by false e is = cc
+kept_passes p (o ∷ xs) x (suc n) h = kept_passes p xs x n h
+
+-- a test of what stands at a number is that of what it stands for
+kept_named : {A B : Type 0} (f : A → B) (p : A → Bool) (q : B → Bool) (xs : List (Option A)) → ((x : A) (n : ℕ) → HasNumber xs x n → p x ≡ q (f x))
+    → map (option_map f) (map (kept_if p) xs) ≡ map (kept_if q) (map (option_map f) xs)
+kept_named f p q [] h = refl
+kept_named {A} {B} f p q (None ∷ xs) h = ap (λ (ys : List (Option B)). None ∷ ys) (kept_named f p q xs (λ x n. h x (suc n)))
+kept_named f p q (Some x ∷ xs) h = λ i. by (p x) (q (f x)) (h x 0 refl) i ∷ kept_named f p q xs (λ x n. h x (suc n)) i
+  where
+    by : (b c : Bool) → b ≡ c → option_map f (cond b (Some x) None) ≡ cond c (Some (f x)) None
+    by true true e = refl
+    by false false e = refl
+    by true false e = cc
+    by false true e = cc
+
+abbrev pub without_rule : TableLists → ℕ → IndexLists → TableLists
+without_rule t k x = record t { pairs = map (kept_if (λ p. not (names_item k p))) t.pairs; index = x }
+
+module _ (t : TableLists) (h : AreTables t) (label : List ℕ) (k : ℕ) (at : IsThere t.index.lines k) (is : get_or t.labels k [] ≡ label) (x : IndexLists)
+    (lines : x.lines ≡ set t.index.lines k None) (lowers : x.lowers ≡ set (map (drop_item k) t.index.lowers) k [])
+    (uppers : x.uppers ≡ set (map (drop_item k) t.index.uppers) k []) where
+  has_k : HasRule (net_of t) k
+  has_k = rule_is_there t h k at
+
+  label_k : (rule_at (net_of t) k).label ≡ label
+  label_k = label_here t h k has_k ∙ is
+
+  abbrev remains : NetLists
+  remains = left (net_of t) h.numbered h.formed.labels_distinct label k has_k label_k
+
+  -- a rule of a pair has the number where it has the label
+  number_named : (u : ℕ) → IsThere t.index.lines u → (u == k) ≡ bytes_eq (get_or t.labels u []) label
+  number_named u there =
+      let has_u : HasRule (net_of t) u = rule_is_there t h u there in
+      same_from_decides (u == k) (bytes_eq (get_or t.labels u []) label) (Decides-eqb u k)
+      (Decides-like (bytes_eq (get_or t.labels u []) label)
+      (λ e. label_once (net_of t) h.numbered h.formed.labels_distinct u k has_u has_k (label_here t h u has_u ∙ e ∙ sym label_k))
+      (λ e. ap (λ n. get_or t.labels n []) e ∙ is)
+      (bytes_eq-Decides (get_or t.labels u []) label))
+
+  pairs_without : pairs_of (without_rule t k x) ≡ map (kept_if (λ p. not (bytes_eq p.upper label || bytes_eq p.lower label))) (pairs_of t)
+  pairs_without =
+      kept_named (named t.labels) (λ p. not (names_item k p)) (λ p. not (bytes_eq p.upper label || bytes_eq p.lower label)) t.pairs
+      (λ l n has. let both = h.joined l n has in λ i. not (number_named l.upper both.0 i || number_named l.lower both.1 i))
+
+  rules_emptied_of : rules_of (without_rule t k x) ≡ set (rules_of t) k None
+  rules_emptied_of = ap (rules_from t.names t.labels) lines ∙ rules_emptied t.names t.labels t.index.lines k
+
+  net_without : net_of (without_rule t k x) ≡ remains
+  net_without = λ i. record (net_of t) {
+    theory = record (theory_of t) {
+      rules = (ap there (rules_emptied_of ∙ rules_left (net_of t) h.numbered h.formed.labels_distinct label k has_k label_k)
+          ∙ there_filter (λ r. not (bytes_eq r.label label)) (rules_of t)) i;
+      pairs = (ap there pairs_without ∙ there_filter (λ p. not (bytes_eq p.upper label || bytes_eq p.lower label)) (pairs_of t)) i;
+    };
+    rules = rules_emptied_of i;
+    pairs = pairs_without i;
   }
 
--- ---- a pair that goes
+  pub theory_without : theory_of (without_rule t k x) ≡ after_edit (theory_of t) (DropRule label)
+  theory_without = ap (λ (N : NetLists). N.theory) net_without
 
-drop_item-append : (l : ℕ) (xs ys : List ℕ) → drop_item l (xs ++ ys) ≡ drop_item l xs ++ drop_item l ys
-drop_item-append l xs ys = filter-append (λ y. not (y == l)) xs ys
+  pub rules_without : rules_of (without_rule t k x) ≡ map (kept_if (λ r. not (bytes_eq r.label label))) (rules_of t)
+  rules_without = rules_emptied_of ∙ rules_left (net_of t) h.numbered h.formed.labels_distinct label k has_k label_k
 
--- what the other pairs lead to is what all led to, without one rule
-module _ (l : ℕ) (keep : Pair → Bool) (g : Pair → List ℕ) where
-  pair_step : (p : Pair) (ps : List Pair) (b : Bool) → (b ≡ true → drop_item l (g p) ≡ g p) → (b ≡ false → drop_item l (g p) ≡ [])
-      → drop_item l (g p) ++ flat_map g (filter keep ps) ≡ flat_map g (cond b (p ∷ filter keep ps) (filter keep ps))
-  pair_step p ps true same none = ap (λ xs. xs ++ flat_map g (filter keep ps)) (same refl)
-  pair_step p ps false same none = ap (λ xs. xs ++ flat_map g (filter keep ps)) (none refl)
+  literals_without : All (HasLiterals t.names) remains.theory.rules
+  literals_without = All-filter (λ r. not (bytes_eq r.label label)) (HasLiterals t.names) (theory_of t).rules h.tables.rules_named
 
-  pub without_pair : (ps : List Pair) → ((p : Pair) → keep p ≡ true → drop_item l (g p) ≡ g p) → ((p : Pair) → keep p ≡ false → drop_item l (g p) ≡ [])
-      → drop_item l (flat_map g ps) ≡ flat_map g (filter keep ps)
-  without_pair [] same none = refl
-  without_pair (p ∷ ps) same none =
-      drop_item-append l (g p) (flat_map g ps)
-      ∙ ap (λ xs. drop_item l (g p) ++ xs) (without_pair ps same none)
-      ∙ pair_step p ps (keep p) (same p) (none p)
+  held : HasTables remains t.marks x
+  held = record {
+    facts_named = h.tables.facts_named;
+    rules_named = literals_without;
+    facts = h.tables.facts;
+    index = record {
+      lines = lines
+          ∙ ap (λ (ys : List (Option Line)). set ys k None) h.tables.index.lines
+          ∙ sym (map-set (option_map (line_in t.names)) (rules_of t) k None);
+      lowers = lowers ∙ lowers_left (net_of t) h.numbered h.formed.labels_distinct label k has_k label_k t.index.lowers h.tables.index.lowers;
+      uppers = uppers ∙ uppers_left (net_of t) h.numbered h.formed.labels_distinct label k has_k label_k t.index.uppers h.tables.index.uppers;
+    };
+  }
 
--- pairs that lead nowhere do not matter
-module _ (keep : Pair → Bool) (g : Pair → List ℕ) where
-  idle_step : (p : Pair) (ps : List Pair) (b : Bool) → (b ≡ false → g p ≡ []) → flat_map g (cond b (p ∷ filter keep ps) (filter keep ps)) ≡ g p ++ flat_map g (filter keep ps)
-  idle_step p ps true none = refl
-  idle_step p ps false none = sym (ap (λ xs. xs ++ flat_map g (filter keep ps)) (none refl))
+  numbered_left : IsNumbered remains
+  numbered_left =
+      numbered_by remains (names_distinct (net_of t) h.numbered) h.paired h.tables.facts_named literals_without refl
+      (sym (ap there (rules_left (net_of t) h.numbered h.formed.labels_distinct label k has_k label_k) ∙ there_filter (λ r. not (bytes_eq r.label label)) (rules_of t)))
+      (sym (there_filter (λ p. not (bytes_eq p.upper label || bytes_eq p.lower label)) (pairs_of t)))
 
-  pub idle_pairs : (ps : List Pair) → ((p : Pair) → keep p ≡ false → g p ≡ []) → flat_map g (filter keep ps) ≡ flat_map g ps
-  idle_pairs [] none = refl
-  idle_pairs (p ∷ ps) none = idle_step p ps (keep p) (none p) ∙ ap (λ xs. g p ++ xs) (idle_pairs ps none)
+  still_there : (n : ℕ) → IsThere (set t.index.lines k None) n → IsThere t.index.lines n
+  still_there n there = ap is_some (drop_has t.index.lines k _ n (there_is (get_or (set t.index.lines k None) n None) there)).0
 
--- a rule that is found by a label has it
-module _ (label : List ℕ) (q : Rule → Bool) where
-  replicate_is : (n k y : ℕ) → Contains (replicate n k) y → (y ≡ k) × (0 < n)
-  replicate_is zero k y m = absurd (omega (arith, m.1))
-  replicate_is (suc n) k y m =
-      elim (Contains-append_cases (k ∷ []) (replicate n k) y m) [
-        | inl one ↦ (only k y one, omega arith)
-        | inr there ↦ let r = replicate_is n k y there in (r.0, omega arith)
-      ]
-
-  marked : (b v : Bool) → 0 < times 0 (mark_row (b && v)) → b ≡ true
-  marked true v h = refl
-  marked false v h = absurd (omega (arith, h))
-
-  found_label : (rs : List Rule) (k y : ℕ) → Contains (places_from (λ r. mark_row (bytes_eq r.label label && q r)) k rs 0) y
-      → (i : ℕ) × (y ≡ i + k) × (i < length rs) × ((get_or rs i no_rule).label ≡ label)
-  found_label [] k y m = absurd (omega (arith, m.1))
-  found_label (r ∷ rs) k y m =
-      elim (Contains-append_cases (replicate (times 0 (mark_row (bytes_eq r.label label && q r))) k) (places_from (λ u. mark_row (bytes_eq u.label label && q u)) (suc k) rs 0) y m) [
-        | inl here ↦
-            let e = replicate_is (times 0 (mark_row (bytes_eq r.label label && q r))) k y here in
-            (0, omega (arith, e.0), omega arith, (bytes_eq-Decides r.label label).0 (marked (bytes_eq r.label label) (q r) e.1))
-        | inr there ↦
-            let f = found_label rs (suc k) y there in
-            (suc f.0, omega (arith, f.1), omega (arith, f.2), f.3)
-      ]
-
-  pub found_named : (T : TheoryLists) (y : ℕ) → Contains (labelled T label q) y → (get_or T.rules y no_rule).label ≡ label
-  found_named T y m =
-      let f = found_label T.rules 0 y m in
-      let at : y ≡ f.0 = omega (arith, f.1) in
-      ap (λ i. (get_or T.rules i no_rule).label) at ∙ f.3
-
-module _ (T : TheoryLists) (distinct : IsDistinct (labels T)) (p0 : Pair) (u l : ℕ) (lu : u < length T.rules) (ll : l < length T.rules)
-    (eu : (get_or T.rules u no_rule).label ≡ p0.upper) (el : (get_or T.rules l no_rule).label ≡ p0.lower) where
-  abbrev others : Pair → Bool
-  others p = not (pair_eq p p0)
-
-  is_it : (p : Pair) → others p ≡ false → p ≡ p0
-  is_it p e = (pair_eq-Decides p p0).0 (back (pair_eq p p0) e)
+  -- a pair that stays names other rules
+  others : (l : Link) → not (names_item k l) ≡ true → (l.upper ≢ k) × (l.lower ≢ k)
+  others l passes = (
+    λ e. both (l.upper == k) (l.lower == k) passes (inl (alike l.upper k e)),
+    λ e. both (l.upper == k) (l.lower == k) passes (inr (alike l.lower k e)),
+  )
     where
-      back : (b : Bool) → not b ≡ false → b ≡ true
-      back true e = refl
-      back false e = cc
+      both : (a b : Bool) → not (a || b) ≡ true → ((a ≡ true) ⊎ (b ≡ true)) → ⊥
+      both true b e one = cc
+      both false true e one = cc
+      both false false e (inl f) = cc
+      both false false e (inr f) = cc
 
-  is_other : (p : Pair) → others p ≡ true → p ≢ p0
-  is_other p e same = let there : pair_eq p p0 ≡ true = (pair_eq-Decides p p0).1 same in cc
+  joined_left : (l : Link) (n : ℕ) → HasNumber (without_rule t k x).pairs l n → IsThere x.lines l.upper × IsThere x.lines l.lower
+  joined_left l n has =
+      let kept = kept_passes (λ p. not (names_item k p)) t.pairs l n has in
+      let both = h.joined l n kept.0 in
+      let apart = others l kept.1 in
+      subst (λ (ls : List (Option Line)). IsThere ls l.upper × IsThere ls l.lower) (sym lines) (
+        there_left t.index.lines k l.upper both.0 apart.0,
+        there_left t.index.lines k l.lower both.1 apart.1,
+      )
 
-  drop_one : (b : Bool) (n : ℕ) → drop_item n (cond b (n ∷ []) []) ≡ []
-  drop_one true n = ap (λ b. cond (not b) (n ∷ []) []) (alike n n refl)
-  drop_one false n = refl
-
-  -- the other pairs that lead down from the upper rule do not lead to the lower one
-  idle_by : (b : Bool) (p : Pair) (label : List ℕ) (q : Rule → Bool) (n : ℕ) → (b ≡ true → (get_or T.rules n no_rule).label ≢ label)
-      → drop_item n (cond b (labelled T label q) []) ≡ cond b (labelled T label q) []
-  idle_by true p label q n differs = drop_idle n (labelled T label q) (λ m. differs refl (found_named label q T n m))
-  idle_by false p label q n differs = refl
-
-  lower_here_left : drop_item l (flat_map (λ p. lower_step T p (get_or T.rules u no_rule)) T.pairs)
-      ≡ flat_map (λ p. lower_step T p (get_or T.rules u no_rule)) (filter others T.pairs)
-  lower_here_left =
-      without_pair l others (λ p. lower_step T p (get_or T.rules u no_rule)) T.pairs
-      (λ p e. idle_by (bytes_eq p.upper (get_or T.rules u no_rule).label) p p.lower (test.is_opposing T (get_or T.rules u no_rule).head) l
-      (λ up same. is_other p e (λ i. record {
-        upper = ((bytes_eq-Decides p.upper (get_or T.rules u no_rule).label).0 up ∙ eu) i;
-        lower = (sym same ∙ el) i;
-      })))
-      (λ p e. ap (λ (x : Pair). drop_item l (lower_step T x (get_or T.rules u no_rule))) (is_it p e)
-      ∙ ap (drop_item l) (lower_here T distinct p0 u l lu ll eu el) ∙ drop_one (test.is_opposing T (get_or T.rules u no_rule).head (get_or T.rules l no_rule)) l)
-
-  upper_here_left : drop_item u (flat_map (λ p. upper_step T p (get_or T.rules l no_rule)) T.pairs)
-      ≡ flat_map (λ p. upper_step T p (get_or T.rules l no_rule)) (filter others T.pairs)
-  upper_here_left =
-      without_pair u others (λ p. upper_step T p (get_or T.rules l no_rule)) T.pairs
-      (λ p e. idle_by (bytes_eq p.lower (get_or T.rules l no_rule).label) p p.upper (λ t. test.is_opposing T t.head (get_or T.rules l no_rule) && true) u
-      (λ low same. is_other p e (λ i. record {
-        upper = (sym same ∙ eu) i;
-        lower = ((bytes_eq-Decides p.lower (get_or T.rules l no_rule).label).0 low ∙ el) i;
-      })))
-      (λ p e. ap (λ (x : Pair). drop_item u (upper_step T x (get_or T.rules l no_rule))) (is_it p e)
-      ∙ ap (drop_item u) (upper_here T distinct p0 u l lu ll eu el) ∙ drop_one (test.is_opposing T (get_or T.rules u no_rule).head (get_or T.rules l no_rule)) u)
-
-  lower_other_left : (i : ℕ) → i < length T.rules → i ≢ u
-      → flat_map (λ p. lower_step T p (get_or T.rules i no_rule)) (filter others T.pairs) ≡ flat_map (λ p. lower_step T p (get_or T.rules i no_rule)) T.pairs
-  lower_other_left i lt apart =
-      idle_pairs others (λ p. lower_step T p (get_or T.rules i no_rule)) T.pairs
-      (λ p e. ap (λ (x : Pair). lower_step T x (get_or T.rules i no_rule)) (is_it p e) ∙ lower_elsewhere T distinct p0 u l lu ll eu el i lt apart)
-
-  upper_other_left : (i : ℕ) → i < length T.rules → i ≢ l
-      → flat_map (λ p. upper_step T p (get_or T.rules i no_rule)) (filter others T.pairs) ≡ flat_map (λ p. upper_step T p (get_or T.rules i no_rule)) T.pairs
-  upper_other_left i lt apart =
-      idle_pairs others (λ p. upper_step T p (get_or T.rules i no_rule)) T.pairs
-      (λ p e. ap (λ (x : Pair). upper_step T x (get_or T.rules i no_rule)) (is_it p e) ∙ upper_elsewhere T distinct p0 u l lu ll eu el i lt apart)
-
-  -- the index without the pair
-  pub index_unlinked : (ls : List Literal) (x x' : IndexLists) → HasIndex (numbered T ls) x → x'.lines ≡ x.lines
-      → x'.lowers ≡ set x.lowers u (drop_item l (list_of x.lowers u)) → x'.uppers ≡ set x.uppers l (drop_item u (list_of x.uppers l))
-      → HasIndex (numbered (after_edit T (DropPair p0)) ls) x'
-  index_unlinked ls x x' h lines lowers uppers = record {
-    lines = lines ∙ h.lines;
-    lowers = lowers ∙ ap (λ (ys : List (List ℕ)). set ys u (drop_item l (list_of ys u))) h.lowers
-        ∙ sym (map_changed (lowers_row (numbered T ls)) (lowers_row (numbered (after_edit T (DropPair p0)) ls)) T.rules u no_rule
-        (drop_item l (list_of (map (lowers_row (numbered T ls)) T.rules) u)) lu
-        (sym lower_here_left ∙ ap (drop_item l) (sym (get_or-map (lowers_row (numbered T ls)) T.rules u no_rule [] lu))) lower_other_left);
-    uppers = uppers ∙ ap (λ (ys : List (List ℕ)). set ys l (drop_item u (list_of ys l))) h.uppers
-        ∙ sym (map_changed (uppers_row (numbered T ls) (λ _. true)) (uppers_row (numbered (after_edit T (DropPair p0)) ls) (λ _. true)) T.rules l no_rule
-        (drop_item u (list_of (map (uppers_row (numbered T ls) (λ _. true)) T.rules) l)) ll
-        (sym upper_here_left ∙ ap (drop_item u) (sym (get_or-map (uppers_row (numbered T ls) (λ _. true)) T.rules l no_rule [] ll))) upper_other_left);
+  pub tables_without : IsAccepted (theory_of t) (DropRule label) → AreTables (without_rule t k x)
+  tables_without accepted = record {
+    as_long = omega (arith, h.as_long, ap length lines, length-set t.index.lines k None);
+    facts_within = h.facts_within;
+    formed = subst (λ (T : TheoryLists). IsWellFormed T) (sym theory_without) (edit_keeps (theory_of t) (DropRule label) h.formed accepted);
+    numbered = subst (λ (N : NetLists). IsNumbered N) (sym net_without) numbered_left;
+    paired = h.paired;
+    tables = subst (λ (N : NetLists). HasTables N t.marks x) (sym net_without) held;
+    latest = λ n there. h.latest n (still_there n (subst (λ (ls : List (Option Line)). IsThere ls n) lines there));
+    joined = joined_left;
   }

@@ -1,109 +1,129 @@
--- A theory that is kept by numbers, through more names, one fact more and one rule more.
-use Rattle.std.proofs.Common.{◌≡◌, ◌≤◌, ◌<◌, ℕ, Bool, true, false, List, [], ◌∷◌, ◌++◌, length, get_or, set, map, refl, sym, ap, subst, ◌∙◌, arith, length-append, Result, Ok, Err}
-use Rattle.std.specs.Prelude.{All, Contains, ◌↔◌, IsErrAnd}
+-- A theory that is loaded by numbers, through more names, one fact more and one rule more.
+use Rattle.std.proofs.Common.{◌≡◌, ◌≤◌, ◌<◌, ℕ, Bool, true, false, Option, None, Some, List, [], ◌∷◌, ◌++◌, length, get_or, set, map, refl, sym, ap, subst, ◌∙◌, arith, length-append, true≢false, Result, Ok, Err}
+use Rattle.std.specs.Prelude.{All, Contains, ◌↔◌, IsErrAnd, option_map, unwrap_or, is_err}
 use Rattle.std.specs.Set.{is_member}
 use Rattle.std.proofs.Math.ListN.{get_or-append, length-map}
 use Rattle.std.proofs.lemmas.List.{map-append}
-use Rattle.std.proofs.lemmas.List.Elements.{All-nil, All-push, All-head, All-tail, All-weaker}
+use Rattle.std.proofs.lemmas.List.Elements.{All-nil, All-push, All-head, All-tail, All-weaker, All-map, All-contains, Contains-get_or}
 use Rattle.std.proofs.lemmas.Map.Made.{is_member-Decides}
 use Rattle.dl_base.specs.Paths.{IsDistinct}
 use Rattle.dl_base.proofs.Members.{map_agree}
 use Rattle.dl_lit.specs.declared.literal.Literal.{Literal}
 use Rattle.dl_lit.specs.Literal.{literal_eq}
 use Rattle.dl_lit.specs.Order.{literal_eq-Decides}
+use Rattle.dl_sup.specs.declared.link.Link.{Link}
 use Rattle.dl_theory.specs.declared.rule.Rule.{Rule}
-use Rattle.dl_theory.specs.declared.rule.Pair.{Pair}
 use Rattle.dl_theory.specs.declared.edit.Edit.{Edit}
 use Rattle.dl_theory.specs.declared.edit.Edit.TheVariants.{AddRule, AddFact}
 use Rattle.dl_theory.specs.declared.edit.EditStop.{EditStop}
 use Rattle.dl_theory.specs.declared.edit.EditStop.TheVariants as edit_stop
-use Rattle.dl_theory.specs.Lists.{TheoryLists, no_lists, IsWellFormed, labels}
+use Rattle.dl_theory.specs.Lists.{TheoryLists, IsWellFormed, labels}
+use Rattle.dl_theory.specs.Pairs.{named, IsWithin as IsPairWithin}
 use Rattle.dl_theory.specs.Edits.{IsAccepted, IsStopped, IsEdited, after_edit}
 use Rattle.dl_theory.proofs.WellFormed.{edit_keeps}
-use Rattle.dl_net.specs.Numbers.{no_literal}
+use Rattle.dl_rows.specs.There.{there, HasNumber}
+use Rattle.dl_rows.proofs.There.{there_map, there_some, there_push, has_there}
 use Rattle.dl_names.specs.Paired.{Grows, number_in}
-use Rattle.dl_net.specs.Named.{HasFacts, HasLiterals, line_in}
-use Rattle.dl_rules.specs.Lines.{Line, IndexLists, no_index, KeepsRules, IsWithin}
-use Rattle.dl_net.specs.Linking.{lowers_by, uppers_by}
-use Rattle.dl_net.specs.KeptNet.{numbered, HasTables}
-use Rattle.dl_net.specs.FromNumbers.{bare_index, literal_in, rule_from, rules_from, theory_from, with_pairs, IsFromNumbers, IsLoading}
 use Rattle.dl_names.proofs.NameLemmas.{number_within}
-use Rattle.dl_net.proofs.AboveLemmas.{line_within}
-use Rattle.dl_net.proofs.NetLemmas.{facts_after, rules_after, tables_by}
-use Rattle.dl_net.proofs.JoinLemmas.{same_rules, tables_roomed, facts_joined, index_like, index_joined}
+use Rattle.dl_rules.specs.Lines.{Line, no_line, line_at, IsThere, IsWithin, IsThereWithin}
+use Rattle.dl_rules.proofs.ThereLemmas.{there_within}
+use Rattle.dl_graph.specs.Numbers.{no_literal}
+use Rattle.dl_graph.specs.Named.{HasFacts, HasLiterals, line_in}
+use Rattle.dl_graph.specs.Tables.{literal_in, rule_from, rules_from}
+use Rattle.dl_graph.proofs.LineLemmas.{line_within as numbers_of}
+use Rattle.dl_net.specs.Loading.{LoadedLists, IsLoading, theory_in}
+use Rattle.dl_net.proofs.NetLemmas.{marks_kept, longer, rules_stand, none_formed}
+use Rattle.dl_net.proofs.RuleLemmas.{rules_push, rule_read, pairs_stand}
+use Rattle.dl_net.proofs.JoinLemmas.{facts_joined}
+
+-- ---- lists without empty numbers
+
+read_all : {A B : Type 0} (f : A → B) (xs : List A) → there (map (option_map f) (map Some xs)) ≡ map f xs
+read_all f xs = there_map f (map Some xs) ∙ ap (map f) (there_some xs)
+
+pub has_some : {A : Type 0} (xs : List A) (x : A) (n : ℕ) → HasNumber (map Some xs) x n → Contains xs x
+has_some {A} xs x n h = subst (λ (ys : List A). Contains ys x) (there_some xs) (has_there (map Some xs) x n h)
+
+pub facts_read : (a : LoadedLists) → (theory_in a).facts ≡ map (literal_in a.names) a.order
+facts_read a = read_all (literal_in a.names) a.order
+
+pub pairs_read : (a : LoadedLists) → (theory_in a).pairs ≡ map (named a.labels) a.pairs
+pairs_read a = read_all (named a.labels) a.pairs
+
+-- the theory of these lists
+theory_is : (a : LoadedLists) (T : TheoryLists) → map (literal_in a.names) a.order ≡ T.facts → there (rules_from a.names a.labels a.lines) ≡ T.rules
+    → map (named a.labels) a.pairs ≡ T.pairs → theory_in a ≡ T
+theory_is a T facts rules pairs = λ i. record { facts = (facts_read a ∙ facts) i; rules = rules i; pairs = (pairs_read a ∙ pairs) i }
+
+-- ---- rules by label
+
+labels_are : (ls : List Literal) (w : ℕ) (ks : List (List ℕ)) (lines : List (Option Line)) → length ks ≡ length lines → All (IsThereWithin w) lines
+    → map (λ r. r.label) (there (rules_from ls ks lines)) ≡ ks
+labels_are ls w [] lines e h = refl
+labels_are ls w (label ∷ ks) [] e h = absurd (omega (arith, e))
+labels_are ls w (label ∷ ks) (None ∷ lines) e h = absurd (true≢false (sym (All-head (IsThereWithin w) None lines h).0))
+labels_are ls w (label ∷ ks) (Some l ∷ lines) e h =
+    ap (λ (more : List (List ℕ)). label ∷ more) (labels_are ls w ks lines (omega (arith, e)) (All-tail (IsThereWithin w) (Some l) lines h))
+
+module _ (a : LoadedLists) (h : IsLoading a) where
+  pub labels_from : labels (theory_in a) ≡ a.labels
+  labels_from = labels_are a.names (length a.names) a.labels a.lines h.as_long h.lines
+
+  pub rules_len : length (theory_in a).rules ≡ length a.labels
+  rules_len = sym (length-map (theory_in a).rules (λ r. r.label)) ∙ ap length labels_from
+
+  pub facts_len : length (theory_in a).facts ≡ length a.order
+  facts_len = ap length (facts_read a) ∙ length-map a.order (literal_in a.names)
+
+  pub facts_named : All (Contains a.names) (theory_in a).facts
+  facts_named =
+      subst (λ (qs : List Literal). All (Contains a.names) qs) (sym (facts_read a))
+      (All-map (Contains a.names) (literal_in a.names) a.order
+      (All-weaker (λ n. n < length a.names) (λ n. Contains a.names (literal_in a.names n)) (λ n lt. Contains-get_or a.names n no_literal lt) a.order h.order))
 
 -- ---- more names
 
-module _ (P : Literal → Type 0) (a b : List Literal) (g : Grows P a b) where
-  as_many : length a ≤ length b
-  as_many = omega (arith, ap length g.is, length-append a g.more)
+-- numbers of rules that are there
+pub line_within : (w : ℕ) (lines : List (Option Line)) → All (IsThereWithin w) lines → (n : ℕ) → IsThere lines n → IsWithin w (line_at lines n)
+line_within w lines h n at = (h n None (there_within lines n at)).1
 
-  literal_kept : (n : ℕ) → n < length a → literal_in b n ≡ literal_in a n
-  literal_kept n lt = ap (λ (ls : List Literal). get_or ls n no_literal) g.is ∙ get_or-append a g.more no_literal n lt
-
+module _ (P : Literal → Type 0) (a b : List Literal) (g : Grows P a b) (distinct : IsDistinct b) where
   literals_same : (ns : List ℕ) → All (λ n. n < length a) ns → map (literal_in b) ns ≡ map (literal_in a) ns
   literals_same ns w =
-      map_agree (literal_in b) (literal_in a) ns (All-weaker (λ n. n < length a) (λ n. literal_in b n ≡ literal_in a n) literal_kept ns w)
-
-  rule_kept : (label : List ℕ) (l : Line) → IsWithin (length a) l → rule_from b label l ≡ rule_from a label l
-  rule_kept label l w = λ i. record { label = label; kind = l.kind; body = literals_same l.body w.1 i; head = literal_kept l.head w.0 i }
-
-  rules_same : (ks : List (List ℕ)) (lines : List Line) → All (IsWithin (length a)) lines → rules_from b ks lines ≡ rules_from a ks lines
-  rules_same [] lines w = refl
-  rules_same (label ∷ ks) [] w = refl
-  rules_same (label ∷ ks) (l ∷ lines) w =
-      λ i. rule_kept label l (All-head (IsWithin (length a)) l lines w) i ∷ rules_same ks lines (All-tail (IsWithin (length a)) l lines w) i
-
-  theory_same : (ks : List (List ℕ)) (order : List ℕ) (pairs : List Pair) (lines : List Line) → All (λ n. n < length a) order → All (IsWithin (length a)) lines
-      → theory_from b ks order pairs lines ≡ theory_from a ks order pairs lines
-  theory_same ks order pairs lines v w = λ i. record { facts = literals_same order v i; rules = rules_same ks lines w i; pairs = pairs }
+      map_agree (literal_in b) (literal_in a) ns
+      (All-weaker (λ n. n < length a) (λ n. literal_in b n ≡ literal_in a n)
+      (λ n lt. ap (λ (ls : List Literal). get_or ls n no_literal) g.is ∙ get_or-append a g.more no_literal n lt) ns w)
 
   numbers_within : (ns : List ℕ) → All (λ n. n < length a) ns → All (λ n. n < length b) ns
-  numbers_within ns w = All-weaker (λ n. n < length a) (λ n. n < length b) (λ n lt. omega (arith, lt, as_many)) ns w
+  numbers_within ns w =
+      All-weaker (λ n. n < length a) (λ n. n < length b) (λ n lt. omega (arith, lt, longer a b distinct P g)) ns w
 
-  lines_within : (lines : List Line) → All (IsWithin (length a)) lines → All (IsWithin (length b)) lines
+  lines_within : (lines : List (Option Line)) → All (IsThereWithin (length a)) lines → All (IsThereWithin (length b)) lines
   lines_within lines w =
-      All-weaker (IsWithin (length a)) (IsWithin (length b)) (λ l v. (omega (arith, v.0, as_many), numbers_within l.body v.1)) lines w
+      All-weaker (IsThereWithin (length a)) (IsThereWithin (length b))
+      (λ o v. (v.0, (omega (arith, v.1.0, longer a b distinct P g), numbers_within (unwrap_or o no_line).body v.1.1))) lines w
 
-  module _ (ks : List (List ℕ)) (order : List ℕ) (pairs : List Pair) (marks marks' : List Bool) (x x' : IndexLists) (kept : KeepsRules x x')
-      (h : IsFromNumbers a ks order pairs marks x) where
-    -- the theory is the same
-    pub grown_theory : theory_from b ks order pairs x'.lines ≡ theory_from a ks order pairs x.lines
-    grown_theory =
-        ap (λ (lines : List Line). theory_from b ks order pairs lines) kept.lines ∙ theory_same ks order pairs x.lines h.facts_within h.lines_within
+-- the same lists among more names
+abbrev pub grown : LoadedLists → List Literal → List Bool → LoadedLists
+grown a names marks = record a { names = names; marks = marks }
 
-    -- and it is kept by the numbers among more names
-    pub grown_numbers : IsDistinct b → ((qs : List Literal) → HasFacts b qs marks → HasFacts b qs marks') → IsFromNumbers b ks order pairs marks' x'
-    grown_numbers distinct more =
-        let T : TheoryLists = theory_from a ks order pairs x.lines in
-        record {
-          formed = subst IsWellFormed (sym grown_theory) h.formed;
-          as_long = h.as_long ∙ ap length (sym kept.lines);
-          facts_within = numbers_within order h.facts_within;
-          lines_within = subst (λ (lines : List Line). All (IsWithin (length b)) lines) (sym kept.lines) (lines_within x.lines h.lines_within);
-          tables = subst (λ (U : TheoryLists). HasTables (numbered U b) marks' x') (sym grown_theory)
-              (tables_roomed T a b marks marks' x x' P distinct g kept more h.tables);
-        }
+module _ (P : Literal → Type 0) (a : LoadedLists) (b : List Literal) (marks : List Bool) (g : Grows P a.names b) (distinct : IsDistinct b)
+    (more : (qs : List Literal) → HasFacts b qs a.marks → HasFacts b qs marks) (h : IsLoading a) where
+  pub grown_theory : theory_in (grown a b marks) ≡ theory_in a
+  grown_theory =
+      theory_is (grown a b marks) (theory_in a) (literals_same P a.names b g distinct a.order h.order ∙ sym (facts_read a)) (ap there (rules_stand a.names b distinct P g a.labels a.lines (line_within (length a.names) a.lines h.lines)))
+      (sym (pairs_read a))
 
--- ---- labels
-
-labels_are : (ls : List Literal) (ks : List (List ℕ)) (lines : List Line) → length ks ≡ length lines → map (λ r. r.label) (rules_from ls ks lines) ≡ ks
-labels_are ls [] lines e = refl
-labels_are ls (label ∷ ks) [] e = absurd (omega (arith, e))
-labels_are ls (label ∷ ks) (l ∷ lines) e = ap (λ (more : List (List ℕ)). label ∷ more) (labels_are ls ks lines (omega (arith, e)))
-
-rules_len : (ls : List Literal) (ks : List (List ℕ)) (lines : List Line) → length ks ≡ length lines → length (rules_from ls ks lines) ≡ length ks
-rules_len ls [] lines e = refl
-rules_len ls (label ∷ ks) [] e = absurd (omega (arith, e))
-rules_len ls (label ∷ ks) (l ∷ lines) e = omega (arith, rules_len ls ks lines (omega (arith, e)))
-
-module _ (ls : List Literal) (ks : List (List ℕ)) (order : List ℕ) (pairs : List Pair) (marks : List Bool) (x : IndexLists)
-    (h : IsFromNumbers ls ks order pairs marks x) where
-  pub labels_from : labels (theory_from ls ks order pairs x.lines) ≡ ks
-  labels_from = labels_are ls ks x.lines h.as_long
-
-  pub rules_from_len : length (rules_from ls ks x.lines) ≡ length ks
-  rules_from_len = rules_len ls ks x.lines h.as_long
+  pub grown_loading : IsLoading (grown a b marks)
+  grown_loading = record {
+    formed = subst IsWellFormed (sym grown_theory) h.formed;
+    as_long = h.as_long;
+    lines = lines_within P a.names b g distinct a.lines h.lines;
+    order = numbers_within P a.names b g distinct a.order h.order;
+    pairs = h.pairs;
+    marks = subst (λ (T : TheoryLists). HasFacts b T.facts marks) (sym grown_theory)
+        (more (theory_in a).facts (marks_kept a.names b distinct P g (theory_in a).facts a.marks (facts_named a h) h.marks));
+  }
 
 -- ---- one fact more
 
@@ -117,227 +137,121 @@ mark_tells ls facts marks q distinct h there =
     let decides = is_member-Decides literal_eq-Decides facts q in
     (λ e. decides.0 (sym is ∙ e), λ m. is ∙ decides.1 m)
 
-module _ (ls : List Literal) (ks : List (List ℕ)) (order : List ℕ) (pairs : List Pair) (marks : List Bool) (x : IndexLists) (q : Literal)
-    (distinct : IsDistinct ls) (there : Contains ls q) (h : IsFromNumbers ls ks order pairs marks x) where
-  pub fact_theory : theory_from ls ks (order ++ number_in ls q ∷ []) pairs x.lines ≡ after_edit (theory_from ls ks order pairs x.lines) (AddFact q)
-  fact_theory =
-      let facts : map (literal_in ls) (order ++ number_in ls q ∷ []) ≡ map (literal_in ls) order ++ q ∷ [] =
-      map-append (literal_in ls) order (number_in ls q ∷ [])
-      ∙ ap (λ (y : Literal). map (literal_in ls) order ++ y ∷ []) ((number_within ls q distinct there).1 no_literal) in
-      λ i. record { facts = facts i; rules = rules_from ls ks x.lines; pairs = pairs }
+abbrev pub with_fact : LoadedLists → List ℕ → List Bool → LoadedLists
+with_fact a order marks = record a { order = order; marks = marks }
 
-  pub fact_numbers : number_in ls q < length marks → IsAccepted (theory_from ls ks order pairs x.lines) (AddFact q)
-      → IsFromNumbers ls ks (order ++ number_in ls q ∷ []) pairs (set marks (number_in ls q) true) x
-  fact_numbers room accepted =
-      let T : TheoryLists = theory_from ls ks order pairs x.lines in
-      record {
-        formed = subst IsWellFormed (sym fact_theory) (edit_keeps T (AddFact q) h.formed accepted);
-        as_long = h.as_long;
-        facts_within = All-push (λ n. n < length ls) order (number_in ls q) h.facts_within (number_within ls q distinct there).0;
-        lines_within = h.lines_within;
-        tables = subst (λ (U : TheoryLists). HasTables (numbered U ls) (set marks (number_in ls q) true) x) (sym fact_theory)
-            (record {
-              facts_named = facts_after T ls (AddFact q) h.tables.facts_named there;
-              rules_named = h.tables.rules_named;
-              facts = facts_joined ls T.facts marks q distinct there room h.tables.facts;
-              index = index_like T (T.facts ++ q ∷ []) ls x h.tables.index;
-            });
-      }
+module _ (a : LoadedLists) (h : IsLoading a) (distinct : IsDistinct a.names) (q : Literal) (there : Contains a.names q) (n : ℕ)
+    (is : n ≡ number_in a.names q) where
+  -- a number that is marked is that of a fact
+  pub marked_fact : (get_or a.marks n false ≡ true) ↔ Contains (theory_in a).facts q
+  marked_fact =
+      let tells = mark_tells a.names (theory_in a).facts a.marks q distinct h.marks there in
+      let same : get_or a.marks n false ≡ get_or a.marks (number_in a.names q) false = ap (λ (m : ℕ). get_or a.marks m false) is in
+      (λ e. tells.0 (sym same ∙ e), λ m. same ∙ tells.1 m)
+
+  pub new_fact : get_or a.marks n false ≡ false → length a.order < 1000000 → IsAccepted (theory_in a) (AddFact q)
+  new_fact off few = (λ m. let on = marked_fact.1 m in cc, omega (arith, few, facts_len a h))
+
+  module _ (order : List ℕ) (marks : List Bool) (put : order ≡ a.order ++ n ∷ []) (marked : marks ≡ set a.marks n true) where
+    pub fact_theory : theory_in (with_fact a order marks) ≡ after_edit (theory_in a) (AddFact q)
+    fact_theory =
+        theory_is (with_fact a order marks) (after_edit (theory_in a) (AddFact q))
+        (ap (map (literal_in a.names)) put ∙ map-append (literal_in a.names) a.order (n ∷ [])
+        ∙ (λ i. sym (facts_read a) i ++ (ap (literal_in a.names) is ∙ (number_within a.names q distinct there).1 no_literal) i ∷ []))
+        refl (sym (pairs_read a))
+
+    pub fact_loading : length a.names ≤ length a.marks → IsAccepted (theory_in a) (AddFact q) → IsLoading (with_fact a order marks)
+    fact_loading room accepted =
+        let at = number_within a.names q distinct there in record {
+          formed = subst IsWellFormed (sym fact_theory) (edit_keeps (theory_in a) (AddFact q) h.formed accepted);
+          as_long = h.as_long;
+          lines = h.lines;
+          order = subst (λ (ns : List ℕ). All (λ m. m < length a.names) ns) (sym put)
+              (All-push (λ m. m < length a.names) a.order n h.order (omega (arith, is, at.0)));
+          pairs = h.pairs;
+          marks = subst (λ (T : TheoryLists). HasFacts a.names T.facts marks) (sym fact_theory)
+              (subst (λ (ms : List Bool). HasFacts a.names ((theory_in a).facts ++ q ∷ []) ms) (sym (marked ∙ ap (λ (m : ℕ). set a.marks m true) is))
+              (facts_joined a.names (theory_in a).facts a.marks q distinct there (omega (arith, at.0, room)) h.marks));
+        }
 
 -- ---- one rule more
 
-rules_pushed : (ls : List Literal) (ks : List (List ℕ)) (lines : List Line) (label : List ℕ) (l : Line) → length ks ≡ length lines
-    → rules_from ls (ks ++ label ∷ []) (lines ++ l ∷ []) ≡ rules_from ls ks lines ++ rule_from ls label l ∷ []
-rules_pushed ls [] [] label l e = refl
-rules_pushed ls [] (m ∷ lines) label l e = absurd (omega (arith, e))
-rules_pushed ls (k ∷ ks) [] label l e = absurd (omega (arith, e))
-rules_pushed ls (k ∷ ks) (m ∷ lines) label l e = ap (λ (rs : List Rule). rule_from ls k m ∷ rs) (rules_pushed ls ks lines label l (omega (arith, e)))
+abbrev pub with_rule : LoadedLists → List (List ℕ) → List (Option Line) → LoadedLists
+with_rule a ks lines = record a { labels = ks; lines = lines }
 
-body_back : (ls : List Literal) (qs : List Literal) → IsDistinct ls → All (Contains ls) qs → map (literal_in ls) (map (number_in ls) qs) ≡ qs
-body_back ls [] distinct h = refl
-body_back ls (q ∷ qs) distinct h =
-    λ i. (number_within ls q distinct (All-head (Contains ls) q qs h)).1 no_literal i ∷ body_back ls qs distinct (All-tail (Contains ls) q qs h) i
+module _ (a : LoadedLists) (h : IsLoading a) (r : Rule) where
+  -- a label that is new, where there are not so many rules
+  pub new_rule : ¬ Contains a.labels r.label → length a.labels < 1000000 → IsAccepted (theory_in a) (AddRule r)
+  new_rule new few = (
+    λ m. new (subst (λ (ks : List (List ℕ)). Contains ks r.label) (labels_from a h) m),
+    omega (arith, few, rules_len a h),
+  )
 
--- a rule is that of its numbers
-pub rule_back : (ls : List Literal) (r : Rule) → IsDistinct ls → HasLiterals ls r → rule_from ls r.label (line_in ls r) ≡ r
-rule_back ls r distinct h =
-    λ i. record { label = r.label; kind = r.kind; body = body_back ls r.body distinct h.1 i; head = (number_within ls r.head distinct h.0).1 no_literal i }
+  module _ (distinct : IsDistinct a.names) (known : HasLiterals a.names r) (ks : List (List ℕ)) (lines : List (Option Line)) (put : ks ≡ a.labels ++ r.label ∷ [])
+      (entered : lines ≡ a.lines ++ Some (line_in a.names r) ∷ []) where
+    pairs_named : map (option_map (named (a.labels ++ r.label ∷ []))) (map Some a.pairs) ≡ map (option_map (named a.labels)) (map Some a.pairs)
+    pairs_named =
+        pairs_stand a.labels (r.label ∷ []) (map Some a.pairs) (λ l n has. All-contains (IsPairWithin a.labels) a.pairs l h.pairs (has_some a.pairs l n has))
 
-module _ (ls : List Literal) (ks : List (List ℕ)) (order : List ℕ) (pairs : List Pair) (marks : List Bool) (x x' : IndexLists) (r : Rule)
-    (distinct : IsDistinct ls) (named : HasLiterals ls r) (h : IsFromNumbers ls ks order pairs marks x) (lines : x'.lines ≡ x.lines ++ line_in ls r ∷ []) where
-  pub rule_theory : theory_from ls (ks ++ r.label ∷ []) order pairs x'.lines ≡ after_edit (theory_from ls ks order pairs x.lines) (AddRule r)
-  rule_theory =
-      let rules : rules_from ls (ks ++ r.label ∷ []) x'.lines ≡ rules_from ls ks x.lines ++ r ∷ [] =
-      ap (λ (ys : List Line). rules_from ls (ks ++ r.label ∷ []) ys) lines
-      ∙ rules_pushed ls ks x.lines r.label (line_in ls r) h.as_long
-      ∙ ap (λ (s : Rule). rules_from ls ks x.lines ++ s ∷ []) (rule_back ls r distinct named) in
-      λ i. record { facts = map (literal_in ls) order; rules = rules i; pairs = pairs }
+    pub rule_theory : theory_in (with_rule a ks lines) ≡ after_edit (theory_in a) (AddRule r)
+    rule_theory =
+        theory_is (with_rule a ks lines) (after_edit (theory_in a) (AddRule r)) (sym (facts_read a))
+        (ap there
+        ((λ i. rules_from a.names (put i) (entered i)) ∙ rules_push a.names a.labels a.lines r.label (Some (line_in a.names r)) h.as_long)
+        ∙ there_push (rules_from a.names a.labels a.lines) (rule_from a.names r.label (line_in a.names r))
+        ∙ ap (λ (s : Rule). there (rules_from a.names a.labels a.lines) ++ s ∷ []) (rule_read a.names r distinct known))
+        (sym (pairs_read (record a { labels = ks })) ∙ ap there (ap (λ (ls : List (List ℕ)). map (option_map (named ls)) (map Some a.pairs)) put ∙ pairs_named))
 
-  pub rule_numbers : IsAccepted (theory_from ls ks order pairs x.lines) (AddRule r) → x'.lowers ≡ x.lowers ++ [] ∷ [] → x'.uppers ≡ x.uppers ++ [] ∷ []
-      → IsFromNumbers ls (ks ++ r.label ∷ []) order pairs marks x'
-  rule_numbers accepted lowers uppers =
-      let T : TheoryLists = theory_from ls ks order pairs x.lines in
-      record {
-        formed = subst IsWellFormed (sym rule_theory) (edit_keeps T (AddRule r) h.formed accepted);
-        as_long = omega (arith, h.as_long, ap length lines, length-append ks (r.label ∷ []), length-append x.lines (line_in ls r ∷ []));
-        facts_within = h.facts_within;
-        lines_within = subst (λ (ys : List Line). All (IsWithin (length ls)) ys) (sym lines)
-            (All-push (IsWithin (length ls)) x.lines (line_in ls r) h.lines_within (line_within ls (length ls) r distinct named (omega arith)));
-        tables = subst (λ (U : TheoryLists). HasTables (numbered U ls) marks x') (sym rule_theory)
-            (record {
-              facts_named = h.tables.facts_named;
-              rules_named = rules_after T ls (AddRule r) h.tables.rules_named named;
-              facts = h.tables.facts;
-              index = index_joined T r accepted.0 h.formed.pairs_label_rules ls x x' h.tables.index lines lowers uppers;
-            });
-      }
-
--- ---- a statement among more names, where the tables hold no pair yet
-
-module _ (P : Literal → Type 0) (a b : List Literal) (g : Grows P a b) (distinct : IsDistinct b) (ks : List (List ℕ)) (order : List ℕ) (pairs : List Pair)
-    (marks marks' : List Bool) (x : IndexLists) (more : (qs : List Literal) → HasFacts b qs marks → HasFacts b qs marks')
-    (h : IsLoading a ks order pairs marks x) where
-  abbrev old : TheoryLists
-  old = theory_from a ks order pairs x.lines
-
-  -- an index with the same rules
-  module _ (x' : IndexLists) (kept : KeepsRules x x') where
-    pub named_theory : theory_from b ks order pairs x'.lines ≡ old
-    named_theory = ap (with_pairs pairs) (grown_theory P a b g ks order [] marks marks' x x' kept h.tables)
-
-    pub named_numbers : IsLoading b ks order pairs marks' x'
-    named_numbers = record {
-      formed = subst IsWellFormed (sym named_theory) h.formed;
-      tables = grown_numbers P a b g ks order [] marks marks' x x' kept h.tables distinct more;
+    pub rule_loading : IsAccepted (theory_in a) (AddRule r) → IsLoading (with_rule a ks lines)
+    rule_loading accepted = record {
+      formed = subst IsWellFormed (sym rule_theory) (edit_keeps (theory_in a) (AddRule r) h.formed accepted);
+      as_long = omega (
+        arith,
+        h.as_long,
+        ap length put,
+        ap length entered,
+        length-append a.labels (r.label ∷ []),
+        length-append a.lines (Some (line_in a.names r) ∷ []),
+      );
+      lines = subst (λ (ys : List (Option Line)). All (IsThereWithin (length a.names)) ys) (sym entered)
+          (All-push (IsThereWithin (length a.names)) a.lines (Some (line_in a.names r)) h.lines
+          (refl, numbers_of a.names (length a.names) r distinct known (omega arith)));
+      order = h.order;
+      pairs = subst (λ (ls : List (List ℕ)). All (IsPairWithin ls) a.pairs) (sym put)
+          (All-weaker (IsPairWithin a.labels) (IsPairWithin (a.labels ++ r.label ∷ []))
+          (λ l v. (omega (arith, v.0, length-append a.labels (r.label ∷ [])), omega (arith, v.1, length-append a.labels (r.label ∷ [])))) a.pairs h.pairs);
+      marks = h.marks;
     }
 
-  pub same_theory : theory_from b ks order pairs x.lines ≡ old
-  same_theory = named_theory x (same_rules x)
+-- ---- other pairs
 
-  pub same_numbers : IsLoading b ks order pairs marks' x
-  same_numbers = named_numbers x (same_rules x)
+abbrev pub with_pairs : LoadedLists → List Link → LoadedLists
+with_pairs a links = record a { pairs = links }
 
-  module _ (q : Literal) (there : Contains b q) (n : ℕ) (is : n ≡ number_in b q) where
-    -- a number that is marked is that of a fact
-    pub marked_fact : (get_or marks' n false ≡ true) ↔ Contains old.facts q
-    marked_fact =
-        let tells = mark_tells b (theory_from b ks order pairs x.lines).facts marks' q distinct same_numbers.tables.tables.facts there in
-        let same : get_or marks' n false ≡ get_or marks' (number_in b q) false = ap (λ (m : ℕ). get_or marks' m false) is in (
-          λ e. subst (λ (T : TheoryLists). Contains T.facts q) same_theory (tells.0 (sym same ∙ e)),
-          λ m. same ∙ tells.1 (subst (λ (T : TheoryLists). Contains T.facts q) (sym same_theory) m),
-        )
+module _ (a : LoadedLists) (h : IsLoading a) (links : List Link) where
+  pub pairs_theory : theory_in (with_pairs a links) ≡ record (theory_in a) { pairs = map (named a.labels) links }
+  pairs_theory = theory_is (with_pairs a links) (record (theory_in a) { pairs = map (named a.labels) links }) (sym (facts_read a)) refl refl
 
-    pub new_fact : get_or marks' n false ≡ false → length order < 1000000 → IsAccepted old (AddFact q)
-    new_fact off few = (λ m. let on = marked_fact.1 m in cc, omega (arith, few, length-map order (literal_in a)))
-
-    module _ (order' : List ℕ) (marks'' : List Bool) (put : order' ≡ order ++ n ∷ []) (marked : marks'' ≡ set marks' n true) where
-      pub put_fact_theory : theory_from b ks order' pairs x.lines ≡ after_edit old (AddFact q)
-      put_fact_theory =
-          ap (λ (ns : List ℕ). theory_from b ks ns pairs x.lines) (put ∙ ap (λ (m : ℕ). order ++ m ∷ []) is)
-          ∙ ap (with_pairs pairs) (fact_theory b ks order [] marks' x q distinct there same_numbers.tables)
-          ∙ ap (λ (T : TheoryLists). after_edit T (AddFact q)) same_theory
-
-      pub put_fact_numbers : length b ≤ length marks' → IsAccepted old (AddFact q) → IsLoading b ks order' pairs marks'' x
-      put_fact_numbers room accepted =
-          let at = number_within b q distinct there in
-          record {
-            formed = subst IsWellFormed (sym put_fact_theory) (edit_keeps old (AddFact q) h.formed accepted);
-            tables = subst (λ (ns : List ℕ). IsFromNumbers b ks ns [] marks'' x) (sym (put ∙ ap (λ (m : ℕ). order ++ m ∷ []) is))
-                (subst (λ (ms : List Bool). IsFromNumbers b ks (order ++ number_in b q ∷ []) [] ms x) (sym (marked ∙ ap (λ (m : ℕ). set marks' m true) is))
-                (fact_numbers b ks order [] marks' x q distinct there same_numbers.tables (omega (arith, at.0, room))
-                (subst (λ (T : TheoryLists). IsAccepted T (AddFact q)) (sym same_theory) accepted)));
-          }
-
-  module _ (r : Rule) (named : HasLiterals b r) (ks' : List (List ℕ)) (x' : IndexLists) (put : ks' ≡ ks ++ r.label ∷ [])
-      (lines : x'.lines ≡ x.lines ++ line_in b r ∷ []) where
-    pub put_rule_theory : theory_from b ks' order pairs x'.lines ≡ after_edit old (AddRule r)
-    put_rule_theory =
-        ap (λ (ls : List (List ℕ)). theory_from b ls order pairs x'.lines) put
-        ∙ ap (with_pairs pairs) (rule_theory b ks order [] marks' x x' r distinct named same_numbers.tables lines)
-        ∙ ap (λ (T : TheoryLists). after_edit T (AddRule r)) same_theory
-
-    pub put_rule_numbers : IsAccepted old (AddRule r) → x'.lowers ≡ x.lowers ++ [] ∷ [] → x'.uppers ≡ x.uppers ++ [] ∷ []
-        → IsLoading b ks' order pairs marks' x'
-    put_rule_numbers accepted lowers uppers = record {
-      formed = subst IsWellFormed (sym put_rule_theory) (edit_keeps old (AddRule r) h.formed accepted);
-      tables = subst (λ (ls : List (List ℕ)). IsFromNumbers b ls order [] marks' x') (sym put)
-          (rule_numbers b ks order [] marks' x x' r distinct named same_numbers.tables lines
-          (subst (λ (T : TheoryLists). IsAccepted T (AddRule r)) (sym same_theory) accepted) lowers uppers);
-    }
-
--- a label that is new, where there are not so many rules
-pub new_label : (ls : List Literal) (ks : List (List ℕ)) (order : List ℕ) (pairs : List Pair) (marks : List Bool) (x : IndexLists) (r : Rule)
-    → IsLoading ls ks order pairs marks x → ¬ Contains ks r.label → length ks < 1000000 → IsAccepted (theory_from ls ks order pairs x.lines) (AddRule r)
-new_label ls ks order pairs marks x r h new few = (
-  λ m. new (subst (λ (labels : List (List ℕ)). Contains labels r.label) (labels_from ls ks order [] marks x h.tables) m),
-  omega (arith, few, rules_from_len ls ks order [] marks x h.tables),
-)
-
--- ---- rules without pairs
-
--- one rule more is one empty list more
-pub more_empty : (lines lines' : List Line) (l : Line) → lines' ≡ lines ++ l ∷ [] → map {B = List ℕ} (λ _. []) lines' ≡ map (λ _. []) lines ++ [] ∷ []
-more_empty lines lines' l e = ap (map (λ _. [])) e ∙ map-append (λ _. []) lines (l ∷ [])
-
-pub same_lines : (lines lines' : List Line) → lines' ≡ lines → KeepsRules (bare_index lines) (bare_index lines')
-same_lines lines lines' e = record {
-  lines = e;
-  lowers = ap (map (λ _. [])) e;
-  uppers = ap (map (λ _. [])) e;
-  wider = omega arith;
-  numbers = ap length e;
-}
-
--- ---- all pairs
-
--- where the rules above and below others are found, the tables are those of the theory with its pairs
-pub linked : (ls : List Literal) (ks : List (List ℕ)) (order : List ℕ) (ps : List Pair) (marks : List Bool) (x x' : IndexLists) → IsLoading ls ks order ps marks x
-    → x'.lines ≡ x.lines
-    → x'.lowers ≡ lowers_by (theory_from ls ks order ps x.lines) ps → x'.uppers ≡ uppers_by (theory_from ls ks order ps x.lines) ps
-    → IsFromNumbers ls ks order ps marks x'
-linked ls ks order ps marks x x' h lines lowers uppers =
-    let T : List Line → TheoryLists = theory_from ls ks order ps in record {
-      formed = subst (λ (xs : List Line). IsWellFormed (T xs)) (sym lines) h.formed;
-      as_long = h.tables.as_long ∙ ap length (sym lines);
-      facts_within = h.tables.facts_within;
-      lines_within = subst (λ (xs : List Line). All (IsWithin (length ls)) xs) (sym lines) h.tables.lines_within;
-      tables = subst (λ (xs : List Line). HasTables (numbered (T xs) ls) marks x') (sym lines)
-          (tables_by (numbered (T x.lines) ls) marks x' h.tables.tables.facts_named h.tables.tables.rules_named h.tables.tables.facts
-          (lines ∙ h.tables.tables.index.lines) lowers uppers);
-    }
+  pub pairs_loading : IsWellFormed (record (theory_in a) { pairs = map (named a.labels) links }) → All (IsPairWithin a.labels) links → IsLoading (with_pairs a links)
+  pairs_loading formed within = record {
+    formed = subst IsWellFormed (sym pairs_theory) formed;
+    as_long = h.as_long;
+    lines = h.lines;
+    order = h.order;
+    pairs = within;
+    marks = h.marks;
+  }
 
 -- ---- nothing yet
 
-pub none_distinct : (A : Type 0) → IsDistinct {A = A} []
-none_distinct A = λ i j d a b c. absurd (omega (arith, b))
-
-none_formed : IsWellFormed no_lists
-none_formed = record {
-  labels_distinct = none_distinct (List ℕ);
-  facts_distinct = none_distinct Literal;
-  pairs_distinct = none_distinct Pair;
-  pairs_label_rules = All-nil (λ (p : Pair). Contains [] p.upper × Contains [] p.lower);
-  acyclic = λ h. omega (arith, h.closes.1);
-  few_facts = omega arith;
-  few_rules = omega arith;
-  few_pairs = omega arith;
-}
-
-pub none_loading : IsLoading [] [] [] [] [] no_index
+pub none_loading : IsLoading (record { names = []; labels = []; order = []; pairs = []; marks = []; lines = [] })
 none_loading = record {
   formed = none_formed;
-  tables = record {
-    formed = none_formed;
-    as_long = refl;
-    facts_within = All-nil (λ n. n < 0);
-    lines_within = All-nil (IsWithin 0);
-    tables = record {
-      facts_named = All-nil (Contains []);
-      rules_named = All-nil (HasLiterals []);
-      facts = record { marked = λ n lt. absurd (omega (arith, lt)); within = omega arith };
-      index = record { lines = refl; lowers = refl; uppers = refl };
-    };
-  };
+  as_long = refl;
+  lines = All-nil (IsThereWithin 0);
+  order = All-nil (λ n. n < 0);
+  pairs = All-nil (IsPairWithin []);
+  marks = record { marked = λ n lt. absurd (omega (arith, lt)); within = omega arith };
 }
 
 -- ---- answers
@@ -346,3 +260,8 @@ none_loading = record {
 pub memory_stops : {A : Type 0} (T U : TheoryLists) (e : Edit) (r : Result A EditStop) → IsErrAnd r (λ stop. stop ≡ edit_stop.Memory) → U ≡ T → IsEdited T e U r
 memory_stops T U e (Ok x) memory same = absurd memory
 memory_stops T U e (Err stop) memory same = (subst (IsStopped T e) (sym memory) tt, same)
+
+-- an edit that is not stopped is made
+pub edited : {A : Type 0} (T U : TheoryLists) (e : Edit) (r : Result A EditStop) → is_err r ≡ false → IsEdited T e U r → U ≡ after_edit T e
+edited T U e (Ok x) fine h = h.1
+edited T U e (Err stop) fine h = cc

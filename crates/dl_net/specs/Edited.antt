@@ -3,7 +3,7 @@ use Rattle.std.specs.Prelude.{List, [], ◌∷◌, Contains}
 use Rattle.dl_lit.specs.declared.literal.Literal.{Literal}
 use Rattle.dl_theory.specs.declared.edit.Edit.{Edit}
 use Rattle.dl_theory.specs.declared.edit.Edit.TheVariants.{AddRule, DropRule, AddFact, DropFact, AddPair, DropPair}
-use Rattle.dl_net.specs.Named.{HasLiterals}
+use Rattle.dl_graph.specs.Named.{HasLiterals}
 
 -- the literals that an edit may number, with their complements
 abbrev pub edit_literals : Edit → List Literal

@@ -1,51 +1,37 @@
 -- How the fields of a net hold a theory by numbers, and the room for an edit that is prepared.
-use Rattle.std.specs.Prelude.{◌≡◌, Bool, true, false, Option, None, List, map, All, Contains}
-use Rattle.dl_lit.specs.declared.literal.Literal.{Literal}
+use Rattle.std.specs.Prelude.{◌≡◌, true, Option, None, option_map}
+use Rattle.std.specs.Arc.{arc_value}
 use Rattle.dl_theory.specs.declared.edit.Edit.{Edit}
-use Rattle.dl_theory.specs.Lists.{TheoryLists, IsWellFormed}
+use Rattle.dl_net.specs.declared.ready.Ready.{Ready}
+use Rattle.dl_net.specs.declared.held.Held.{Held}
+use Rattle.dl_net.specs.declared.held.Held.TheVariants.{Own, Shared}
 use Rattle.dl_net.specs.declared.net.Net.TheInside.{Inside}
-use Rattle.dl_net.specs.Numbers.{NetLists, IsNumbered, lowers_row, uppers_row}
-use Rattle.dl_rules.specs.Lines.{IndexLists}
-use Rattle.dl_names.specs.Paired.{IsPaired}
-use Rattle.dl_net.specs.Named.{HasLiterals, HasFacts, line_in}
-use Rattle.dl_net.specs.Room.{HasPending}
+use Rattle.dl_net.specs.declared.tables.Tables.{Tables}
+use Rattle.dl_graph.specs.Numbers.{NetLists}
+use Rattle.dl_net.specs.Kept.{AreKept, HasPending, net_in}
 
-abbrev pub theory_of : Inside → TheoryLists
-theory_of a = a.staged.theory
+abbrev pub tables_in : Held → Tables
+tables_in (Own t) = t
+tables_in (Shared t) = arc_value t
 
-abbrev pub pending_of : Inside → Option Edit
-pending_of a = a.staged.pending
+abbrev pub IsOwn : Held → Type 0
+IsOwn (Own t) = Unit {0}
+IsOwn (Shared t) = ⊥
+
+abbrev pub IsShared : Held → Type 0
+IsShared (Own t) = ⊥
+IsShared (Shared t) = Unit {0}
+
+-- the edit that is prepared
+abbrev pub edit_in : Option Ready → Option Edit
+edit_in o = option_map (λ r. r.edit) o
 
 abbrev pub net_of : Inside → NetLists
-net_of a = record {
-  theory = a.staged.theory;
-  names = a.names.literals;
-  pending = a.staged.pending;
-  frozen = a.frozen;
-}
+net_of a = record (net_in (tables_in a.held)) { pending = edit_in a.pending; frozen = a.frozen }
 
--- a theory by the numbers of literals
-abbrev pub numbered : TheoryLists → List Literal → NetLists
-numbered T ls = record { theory = T; names = ls; pending = None; frozen = false }
-
--- the index holds the rules, and for each those below it and above it
-pub record HasIndex (N : NetLists) (x : IndexLists) : Type 0 where
-  pub lines : x.lines ≡ map (line_in N.names) N.theory.rules
-  pub lowers : x.lowers ≡ map (lowers_row N) N.theory.rules
-  pub uppers : x.uppers ≡ map (uppers_row N (λ _. true)) N.theory.rules
-
--- tables of a theory whose literals all have numbers
-pub record HasTables (N : NetLists) (marks : List Bool) (x : IndexLists) : Type 0 where
-  pub facts_named : All (Contains N.names) N.theory.facts
-  pub rules_named : All (HasLiterals N.names) N.theory.rules
-  pub facts : HasFacts N.names N.theory.facts marks
-  pub index : HasIndex N x
-
+-- what is prepared has its room in tables of the net's own, and what is frozen is shared
 pub record IsKeptNet (a : Inside) : Type 0 where
-  pub formed : IsWellFormed a.staged.theory
-  pub numbered : IsNumbered (net_of a)
-  pub paired : IsPaired a.names.literals
-  pub tables : HasTables (net_of a) a.facts.items a.index
-  pub pending : HasPending (net_of a) a.facts.items a.index a.staged.pending
-  pub frozen : a.frozen ≡ true → a.names.frozen ≡ true
-  pub settled : a.frozen ≡ true → a.staged.pending ≡ None
+  pub kept : AreKept (tables_in a.held)
+  pub pending : HasPending (tables_in a.held) (edit_in a.pending)
+  pub owned : (¬ (a.pending ≡ None)) → IsOwn a.held
+  pub frozen : a.frozen ≡ true → IsShared a.held

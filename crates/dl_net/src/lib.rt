@@ -1,33 +1,25 @@
-//! A theory by numbers: what a fill reads of it in one step each.
+//! A theory by numbers, under edits.
 //!
-//! A literal's number is its place among the names, a rule's its place in the list. `Net` holds a theory that takes edits,
-//! `NumberedTheory` takes one statement by statement as it is read, and `NumberedNet` takes that over when the last one is there.
-//! `Graph` is what fills read of either: the rules with a head, those that use a literal, those above and below a rule. A net stands
-//! for a theory after each edit, each of these lists is exactly what the theory's lists say, and no number of a literal changes.
-//! Begin with `specs/Numbers.antt`, which says it in words of the logic, and with `graph.rt`.
+//! `Net` keeps a theory by numbers alone and lends what is read of it as a `Graph`. A theory is loaded into a `NumberedTheory`, statement by
+//! statement, which becomes a net when the last one is there. An edit of a net is prepared with all the memory that it takes, or refused with
+//! the first cause, and then made without any. A net stands for its theory after each edit. No edit moves a number, and what goes leaves its
+//! number empty; numbers are given anew only where most of them are empty. A frozen net is shared at the cost of a count: the tables are
+//! copied by the next edit. Begin with `net.rt`; `specs/Kept.antt` says what tables hold, and what an edit keeps and changes.
 #![tactic(auto)]
 
+mod anew;
 mod edits;
-mod graph;
-mod labels;
-mod link;
-mod links;
+mod fact_edits;
+mod held;
 mod load;
 mod net;
-mod net_readers;
 mod number;
 mod numbered;
-mod numbered_net;
-mod readers;
+mod pair_edits;
 mod ready;
-mod room;
-mod staged;
+mod rule_edits;
 mod tables;
 
-pub use dl_rows::Region;
-pub use graph::Graph;
-pub use link::Link;
 pub use net::Net;
 pub use numbered::NumberedTheory;
-pub use numbered_net::NumberedNet;
 pub use ready::Ready;

@@ -1,60 +1,47 @@
-//! A theory by numbers.
+//! A theory by numbers, under edits.
 
-ghost use Rattle.std.specs.Prelude.{◌≡◌, ◌<◌, ◌^◌, ◌↔◌, ℕ, IfOk, IfSome, IfNone, ◌≤◌, IsTrue, None, true, false, All, Contains, length, map, position, slice_get, slice_index, get_or};
-ghost use Rattle.std.specs.List.{flat_map};
-ghost use Rattle.dl_net.specs.Above.{lower_step, upper_step};
-ghost use Rattle.dl_names.specs.Paired.{IsPaired};
-ghost use Rattle.dl_net.specs.Named.{HasLiterals, HasFacts, line_in};
-ghost use Rattle.std.specs.Option.{option_copied};
-ghost use Rattle.dl_lit.specs.Borrowed.{literal_of};
-ghost use Rattle.dl_lit.specs.Literal.{literal_eq};
-ghost use Rattle.dl_theory.specs.Lists.{IsWellFormed};
-ghost use Rattle.dl_theory.specs.Edits.{HasLabel};
-ghost use Rattle.dl_theory.specs.Listings.{Mentions};
+ghost use Rattle.std.specs.Prelude.{◌≡◌, ◌≤◌, IfOk, OnOk, OnErr, IsTrue, None, Some, false, length};
+ghost use Rattle.dl_theory.specs.Edits.{IsAnswered, after_edit};
+ghost use Rattle.dl_names.specs.Paired.{IsNear, Grows};
+ghost use Rattle.dl_net.specs.Edited.{edit_literals, HasEditLiterals};
+ghost use Rattle.dl_net.specs.Kept.{AreKept, AreSettled, HasEditRoom, KeepsNumbers, KeepsTables, MakesEdit, net_in, rules_after, theory_in};
+ghost use Rattle.dl_net.specs.KeptNet.{IsOwn, tables_in};
 
-use crate::graph::{Graph, Source};
-use crate::link::Link;
-use crate::load::index_of;
-use crate::number::mark_facts;
-use crate::staged::Staged;
+use crate::held::Held;
+use crate::numbered::NumberedTheory;
+use crate::ready::Ready;
+use crate::tables::Tables;
 use dl_base::Memory;
-use dl_lit::{Literal, LiteralRef, Name};
-use dl_names::PairedNames;
-use dl_rows::{Region, Table};
-use dl_rules::Index;
-use dl_theory::{Pair, Rule, Theory};
+use dl_graph::Graph;
+use dl_theory::{Edit, EditStop, Theory};
 use std::alloc::Global;
 use std::marker::Model;
+use std::sync::Arc;
 
-/// A theory whose literals and rules have numbers, with its indexes.
+/// A theory whose literals, facts, rules and pairs have numbers, with its indexes.
 ///
-/// A literal's number stays; literal and complement stand beside each other. A rule's number is its place in the list.
+/// No edit moves a number. What is added goes last, and what goes leaves its number empty; where more numbers are empty than there are
+/// facts, rules, pairs and literals, preparing an edit first numbers facts, rules and pairs anew.
 pub struct Net {
-    pub(crate) staged: Staged,
-    pub(crate) names: PairedNames,
-    /// By number, whether the literal is a fact.
-    pub(crate) facts: Table<bool>,
-    pub(crate) index: Index,
-    /// What the last long body met. It is kept for its room, so that an edit makes none by how many names there are.
-    pub(crate) seen: Region,
-    pub(crate) frozen: bool,
+    held: Held,
+    /// The edit that is prepared.
+    pending: Option<Ready>,
+    /// Whether the net can be shared.
+    frozen: bool,
 }
 
 impl Drop for Net {
     fn drop(self) {
         let Net {
-            staged: _,
-            names: _,
-            facts: _,
-            index: _,
-            seen: _,
+            held: _,
+            pending: _,
             frozen: _,
         } = self;
     }
 }
 
 impl Model for Net {
-    ghost use Rattle.dl_net.specs.Numbers.{NetLists};
+    ghost use Rattle.dl_graph.specs.Numbers.{NetLists};
 
     ghost Value = { NetLists };
 
@@ -66,175 +53,130 @@ impl Model for Net {
 }
 
 impl Net {
-    ghost use Rattle.dl_net.specs.Numbers.{no_net, no_literal, literal_at, rule_at, IsNumbered, number, number_of_other, is_fact, attackers_row, next, back};
+    ghost use Rattle.dl_graph.specs.Numbers.{no_net};
 
     /// The empty theory.
     pub fn make(alloc: Global) -> Net
         ensures { result ≡ no_net }
     {
-        let theory = Theory::make(alloc);
-        let names = PairedNames::make(alloc);
-        let facts = Table::make(alloc);
-        let index = Index::make(alloc);
-        Net::whole(theory, names, facts, index, false)
+        Net::with(Tables::make(alloc))
     }
 
-    /// The net of a whole theory. `Memory` where there is none for it.
-    pub fn of(alloc: Global, theory: Theory) -> Result<Net, Memory>
-        ensures theory { IfOk result (λ net. net.theory ≡ theory) }
+    /// The net of a theory. `Memory` where there is none for it.
+    pub fn of(alloc: Global, theory: &Theory) -> Result<Net, Memory>
+        ensures theory { IfOk result (λ net. net.theory ≡ theory.now) }
         ensures pending { IfOk result (λ net. net.pending ≡ None) }
         ensures frozen { IfOk result (λ net. net.frozen ≡ false) }
     {
-        // each fact is a literal, and few are complements of each other
-        let mut names = PairedNames::with_room(alloc, theory.facts_len())?;
-        let facts = mark_facts(alloc, &mut names, theory.facts())?;
-        let index = index_of(alloc, &mut names, &theory)?;
-        Ok(Net::whole(theory, names, facts, index, false))
+        let tables = Tables::of(alloc, theory)?;
+        Ok(Net::with(tables))
     }
 
-    /// A net of these parts.
-    pub(crate) fn whole(
-        theory: Theory,
-        names: PairedNames,
-        facts: Table<bool>,
-        index: Index,
-        frozen: bool,
-    ) -> Net
-        requires paired { IsPaired names.literals }
-        requires named { All (HasLiterals names.literals) theory.rules }
-        requires facts_named { All (Contains names.literals) theory.facts }
-        requires facts { HasFacts names.literals theory.facts facts.items }
-        requires lines { index.lines ≡ map (line_in names.literals) theory.rules }
-        requires lowers { index.lowers ≡ map (λ t. flat_map (λ p. lower_step theory p t) theory.pairs) theory.rules }
-        requires uppers { index.uppers ≡ map (λ u. flat_map (λ p. upper_step theory p u) theory.pairs) theory.rules }
-        requires frozen { frozen ≡ true → names.frozen ≡ true }
-        ensures theory { result.theory ≡ theory }
-        ensures names { result.names ≡ names.literals }
-        ensures pending { result.pending ≡ None }
-        ensures frozen { result.frozen ≡ frozen }
+    /// The net of a theory that was loaded by numbers. `Memory` where there is none for the lists of its rules.
+    pub fn load(theory: NumberedTheory) -> Result<Net, Memory>
+        ensures { IfOk result (λ net. net ≡ theory) }
     {
-        let _count = names.len();
-        let _facts = theory.facts_len();
-        let seen = Region::none(facts.alloc());
+        let tables = Tables::load(theory)?;
+        Ok(Net::with(tables))
+    }
+
+    /// A net of these tables.
+    fn with(tables: Tables) -> Net
+        requires kept { AreKept tables }
+        requires settled { AreSettled tables }
+        ensures { result ≡ net_in tables }
+    {
         Net {
-            staged: Staged::of(theory),
-            names,
-            facts,
-            index,
-            seen,
-            frozen,
+            held: Held::Own(tables),
+            pending: None,
+            frozen: false,
         }
     }
 
-    /// What a fill reads of the net.
+    /// What is read of the net.
     #[inline(always)]
     pub fn graph(&self) -> Graph<'_>
         ensures { result ≡ record self.now { pending = None; frozen = false } }
     {
-        Graph {
-            names: &self.names,
-            facts: &self.facts,
-            index: &self.index,
-            source: Source::Staged(&self.staged),
+        self.held.tables().graph()
+    }
+
+    /// Takes all the memory that an edit needs. `Refused` with the first cause where the edit is refused, `Memory` where there
+    /// is none for it. The net stands for the same theory in each case, and what was prepared before is forgotten; literals of
+    /// the edit, and their complements, may have got numbers.
+    pub fn prepare(&mut self, edit: &Edit) -> Result<Ready, EditStop>
+        ensures ready { IfOk result (λ ready. ready.edit ≡ edit.now) }
+        ensures answered { IsAnswered self.old.theory edit.now result }
+        ensures theory { self.new.theory ≡ self.old.theory }
+        ensures rules { KeepsNumbers self.old.rules self.new.rules }
+        ensures few { length self.new.rules ≤ length self.old.rules }
+        ensures names { Grows (IsNear (edit_literals edit.now)) self.old.names self.new.names }
+        ensures named { OnOk result (HasEditLiterals self.new.names edit.now) }
+        ensures pending { OnOk result (self.new.pending ≡ Some edit.now) }
+        ensures forgotten { OnErr result (self.new.pending ≡ None) }
+        ensures frozen { self.new.frozen ≡ false }
+    {
+        self.forget();
+        let ready = Ready { edit: edit.copy()? };
+        let pending = Ready { edit: edit.copy()? };
+        self.held.prepare(edit)?;
+        self.pending = Some(pending);
+        Ok(ready)
+    }
+
+    /// Makes the edit that is prepared, in place. Takes no memory.
+    pub fn commit(&mut self, ready: Ready)
+        requires { self.old.pending ≡ Some ready.edit }
+        ensures theory { self.new.theory ≡ after_edit self.old.theory ready.edit }
+        ensures rules { self.new.rules ≡ rules_after self.old.rules ready.edit }
+        ensures names { self.new.names ≡ self.old.names }
+        ensures pending { self.new.pending ≡ None }
+        ensures frozen { self.new.frozen ≡ false }
+    {
+        match &mut self.held {
+            Held::Shared(_) => unreachable!(),
+            Held::Own(tables) => tables.make_edit(&ready.edit),
+        }
+        self.pending = None;
+    }
+
+    /// From here on the net can be shared, up to the next edit. `Memory` where there is none for that. What was prepared is forgotten.
+    pub fn freeze(&mut self) -> Result<(), Memory>
+        ensures theory { self.new.theory ≡ self.old.theory }
+        ensures rules { self.new.rules ≡ self.old.rules }
+        ensures names { self.new.names ≡ self.old.names }
+        ensures pending { self.new.pending ≡ None }
+        ensures frozen { OnOk result (IsTrue self.new.frozen) }
+    {
+        self.forget();
+        self.held.share()?;
+        self.frozen = true;
+        Ok(())
+    }
+
+    /// The same theory with the same numbers once more, frozen, at the cost of a count. `Memory` where it is shared too often.
+    pub fn share(&self) -> Result<Net, Memory>
+        requires { IsTrue self.now.frozen }
+        ensures { IfOk result (λ net. net ≡ self.now) }
+    {
+        match &self.held {
+            Held::Own(_) => unreachable!(),
+            Held::Shared(tables) => Ok(Net {
+                held: Held::Shared(tables.clone()?),
+                pending: None,
+                frozen: true,
+            }),
         }
     }
 
-    /// The number of a literal; `None` exactly where it has none.
-    pub fn find(&self, literal: &Literal) -> Option<usize>
-        ensures number { result ≡ position (literal_eq literal.now) self.now.names }
-        ensures there { IfSome result (λ n. (n < length self.now.names) × (n ≡ number self.now literal.now)) }
-        ensures absent { IfNone result (¬ Contains self.now.names literal.now) }
+    /// Forgets what was prepared. The net can no longer be shared.
+    fn forget(&mut self)
+        ensures { self.new ≡ record self.old { pending = None; frozen = false } }
     {
-        self.graph().find(literal)
-    }
-
-    /// How many literals have numbers.
-    pub fn names(&self) -> usize
-        ensures len { result ≡ length self.now.names }
-        ensures numbered { IsNumbered self.now }
-        ensures formed { IsWellFormed self.now.theory }
-    {
-        self.graph().names()
-    }
-
-    /// The literal with this number.
-    pub fn literal(&self, number: usize) -> LiteralRef<'_>
-        requires { number < length self.now.names }
-        ensures { literal_of result ≡ literal_at self.now number }
-    {
-        self.graph().literal(number)
-    }
-
-    /// The number of the complement.
-    pub fn other(&self, number: usize) -> usize
-        requires { number < length self.now.names }
-        ensures other { result ≡ number_of_other self.now number }
-        ensures within { result < length self.now.names }
-    {
-        self.graph().other(number)
-    }
-
-    /// The number of the literal at a place among those that attack the literal; `None` exactly where there are not so many.
-    pub fn attacker(&self, number: usize, at: usize) -> Option<usize>
-        requires { number < length self.now.names }
-        ensures { result ≡ slice_get (attackers_row self.now (literal_at self.now number)) at }
-    {
-        self.graph().attacker(number, at)
-    }
-
-    /// Whether the literal with this number is a fact.
-    pub fn is_fact(&self, number: usize) -> bool
-        requires { number < length self.now.names }
-        ensures { result ≡ is_fact self.now number }
-    {
-        self.graph().is_fact(number)
-    }
-
-    /// The place of the rule with a label; `None` exactly where no rule has it.
-    pub fn place(&self, label: &Name) -> Option<usize>
-        ensures within { IfSome result (λ at. at < length self.now.theory.rules) }
-        ensures there { IfSome result (λ at. (rule_at self.now at).label ≡ label.now) }
-        ensures absent { IfNone result (¬ HasLabel self.now.theory label.now) }
-    {
-        self.staged.rule_place(label)
-    }
-
-    pub fn facts_len(&self) -> usize
-        ensures { result ≡ length self.now.theory.facts }
-    {
-        self.staged.facts_len()
-    }
-
-    pub fn rules_len(&self) -> usize
-        ensures { result ≡ length self.now.theory.rules }
-    {
-        self.graph().rules_len()
-    }
-
-    pub fn pairs_len(&self) -> usize
-        ensures { result ≡ length self.now.theory.pairs }
-    {
-        self.staged.pairs_len()
-    }
-
-    /// The fact at a place; `None` exactly past the end.
-    pub fn fact(&self, at: usize) -> Option<&Literal>
-        ensures { option_copied result ≡ slice_get self.now.theory.facts at }
-    {
-        self.staged.fact(at)
-    }
-
-    /// The rule at a place; `None` exactly past the end.
-    pub fn rule(&self, at: usize) -> Option<&Rule>
-        ensures { option_copied result ≡ slice_get self.now.theory.rules at }
-    {
-        self.staged.rule(at)
-    }
-
-    /// The pair at a place; `None` exactly past the end.
-    pub fn pair(&self, at: usize) -> Option<&Pair>
-        ensures { option_copied result ≡ slice_get self.now.theory.pairs at }
-    {
-        self.staged.pair(at)
+        if let Held::Own(tables) = &mut self.held {
+            tables.forget();
+        }
+        self.pending = None;
+        self.frozen = false;
     }
 }

@@ -4,7 +4,7 @@ ghost use Rattle.std.specs.Prelude.{◌≡◌, ◌<◌, ◌≤◌, ◌^◌, ◌�
 ghost use Rattle.dl_base.specs.Paths.{IsDistinct};
 ghost use Rattle.dl_lit.specs.declared.literal.Literal.{Literal};
 ghost use Rattle.dl_names.specs.Paired.{IsPaired, IsNear, Grows, number_in};
-ghost use Rattle.dl_net.specs.Named.{HasLiterals, line_in, HasFacts};
+ghost use Rattle.dl_graph.specs.Named.{HasLiterals, line_in, HasFacts};
 ghost use Rattle.dl_rows.specs.Counting.{each_once};
 ghost use Rattle.dl_rules.specs.Lines.{once_or};
 
@@ -197,38 +197,4 @@ pub(crate) fn number_fact(
         marks.widen(names.len(), false)?;
     }
     Ok(number)
-}
-
-/// Marks one more fact, by its number.
-fn mark_fact(names: &mut PairedNames, marks: &mut Table<bool>, fact: &Literal) -> Result<(), Memory>
-    requires { IsPaired names.old.literals }
-    ensures paired { OnOk result (IsPaired names.new.literals) }
-    ensures distinct { OnOk result (IsDistinct names.new.literals) }
-    ensures grown { OnOk result (Grows (IsNear (fact.now ∷ [])) names.old.literals names.new.literals) }
-    ensures there { OnOk result (Contains names.new.literals fact.now) }
-    ensures same { OnOk result (Contains names.old.literals fact.now → names.new ≡ names.old) }
-    ensures marks { OnOk result ((qs : List Literal) → HasFacts names.new.literals qs marks.old.items → HasFacts names.new.literals (qs ++ fact.now ∷ []) marks.new.items) }
-{
-    let number = number_fact(names, marks, fact)?;
-    marks.write(number as usize, true);
-    Ok(())
-}
-
-/// By number, whether the literal is a fact. Facts get numbers beside their complements where they have none.
-pub(crate) fn mark_facts(
-    alloc: Global,
-    names: &mut PairedNames,
-    facts: &[Literal],
-) -> Result<Table<bool>, Memory>
-    requires { IsPaired names.old.literals }
-    ensures paired { OnOk result (IsPaired names.new.literals) }
-    ensures there { OnOk result (All (Contains names.new.literals) facts.now) }
-    ensures same { OnOk result (All (Contains names.old.literals) facts.now → names.new ≡ names.old) }
-    ensures marks { IfOk result (λ marks. HasFacts names.new.literals facts.now marks.items) }
-{
-    let mut marks = Table::make(alloc);
-    for fact in facts {
-        mark_fact(names, &mut marks, fact)?;
-    }
-    Ok(marks)
 }

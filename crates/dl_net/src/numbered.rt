@@ -1,14 +1,13 @@
 //! A theory that is kept by numbers, without its statements.
 
-ghost use Rattle.std.specs.Prelude.{◌≡◌, ◌↔◌, List, IsTrue, All, Contains, false, get_or};
+ghost use Rattle.std.specs.Prelude.{◌≡◌, ◌++◌, ◌↔◌, List, IsTrue, IfOk, OnOk, All, Contains, false, get_or};
 ghost use Rattle.dl_lit.specs.declared.literal.Literal.{Literal};
 ghost use Rattle.dl_theory.specs.declared.edit.Edit.TheVariants.{AddRule, AddFact};
 ghost use Rattle.dl_theory.specs.declared.rule.Rule.{Rule};
 ghost use Rattle.dl_theory.specs.Lists.{TheoryLists};
 ghost use Rattle.dl_theory.specs.Edits.{HasLabel, IsStopped, IsEdited};
-ghost use Rattle.dl_net.specs.Named.{HasFacts};
+ghost use Rattle.dl_graph.specs.Named.{HasFacts};
 
-use crate::labels::keep_first;
 use crate::load::load_rule;
 use crate::number::number_fact;
 use dl_base::Memory;
@@ -17,8 +16,8 @@ use dl_names::PairedNames;
 use dl_rows::{Region, Table};
 use dl_rules::Lines;
 use dl_theory::{
-    Body, EditRefusal, EditStop, LIMIT, Loading, Pair, PairsStop, Rule, RulePairs, holds_label,
-    insert_label,
+    Body, EditRefusal, EditStop, LIMIT, Loading, Pair, PairsStop, Rule, RulePairs, Theory,
+    holds_label, insert_label,
 };
 use std::alloc::Global;
 use std::marker::Model;
@@ -42,7 +41,7 @@ pub struct NumberedTheory {
 }
 
 impl Model for NumberedTheory {
-    ghost use Rattle.dl_net.specs.Numbers.{NetLists};
+    ghost use Rattle.dl_graph.specs.Numbers.{NetLists};
 
     ghost Value = { NetLists };
 
@@ -54,7 +53,7 @@ impl Model for NumberedTheory {
 }
 
 impl NumberedTheory {
-    ghost use Rattle.dl_net.specs.Numbers.{no_net};
+    ghost use Rattle.dl_graph.specs.Numbers.{no_net};
 
     /// The empty theory.
     pub fn make(alloc: Global) -> NumberedTheory
@@ -69,6 +68,41 @@ impl NumberedTheory {
             lines: Lines::make(alloc),
             seen: Region::none(alloc),
         }
+    }
+
+    /// An equal theory by numbers. `Memory` where there is none for it.
+    pub(crate) fn of(alloc: Global, theory: &Theory) -> Result<NumberedTheory, Memory>
+        ensures { IfOk result (λ loaded. loaded.theory ≡ theory.now) }
+    {
+        let mut loaded = NumberedTheory::make(alloc);
+        loaded.put_facts(theory.facts())?;
+        loaded.put_rules(theory.rules())?;
+        loaded.pairs = theory.rule_pairs()?;
+        Ok(loaded)
+    }
+
+    /// Adds the facts of a theory.
+    fn put_facts(&mut self, facts: &[Literal]) -> Result<(), Memory>
+        ensures { OnOk result (self.new.theory ≡ record self.old.theory { facts = self.old.theory.facts ++ facts.now }) }
+    {
+        for fact in facts {
+            if self.put_fact(fact).is_err() {
+                return Err(Memory);
+            }
+        }
+        Ok(())
+    }
+
+    /// Adds the rules of a theory.
+    fn put_rules(&mut self, rules: &[Rule]) -> Result<(), Memory>
+        ensures { OnOk result (self.new.theory ≡ record self.old.theory { rules = self.old.theory.rules ++ rules.now }) }
+    {
+        for rule in rules {
+            if self.put_rule(rule).is_err() {
+                return Err(Memory);
+            }
+        }
+        Ok(())
     }
 
     /// Adds a fact, or says why not.
@@ -117,7 +151,7 @@ impl NumberedTheory {
         ) {
             Ok(()) => Ok(()),
             Err(Memory) => {
-                keep_first(&mut self.labels, count);
+                self.labels.truncate(count);
                 Err(EditStop::Memory)
             }
         }

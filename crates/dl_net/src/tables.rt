@@ -1,132 +1,122 @@
-//! What an edit changes in the tables of a net. Nothing here takes memory.
+//! The tables that keep a theory by numbers.
 
-ghost use Rattle.std.specs.Prelude.{◌≡◌, ◌<◌, List, All, Contains, Some, length};
-ghost use Rattle.dl_lit.specs.declared.literal.Literal.{Literal};
-ghost use Rattle.dl_base.specs.Paths.{IsDistinct};
-ghost use Rattle.dl_theory.specs.Edits.{IsAccepted, after_edit};
-ghost use Rattle.dl_net.specs.Room.{HasEditRoom, HasPairRoom};
-ghost use Rattle.dl_net.specs.KeptNet.{HasIndex, HasTables, numbered};
-ghost use Rattle.dl_names.specs.Paired.{IsPaired, number_in};
-ghost use Rattle.dl_net.specs.Named.{HasFacts, HasLiterals, line_in};
+ghost use Rattle.std.specs.Prelude.{◌≡◌, [], None, IfOk, IfSome, IfNone, get_or};
+ghost use Rattle.dl_theory.specs.Edits.{HasLabel};
+ghost use Rattle.dl_rules.specs.Lines.{IsThere};
+ghost use Rattle.dl_net.specs.Kept.{AreKept, AreSettled, net_in, theory_in};
 
-use crate::load::meet;
-use crate::staged::Staged;
-use dl_lit::{Literal, Name};
+use dl_base::Memory;
+use dl_graph::Graph;
+use dl_lists::{FactNumbers, PairNumbers, RuleLabels};
+use dl_lit::Name;
 use dl_names::PairedNames;
-use dl_rows::Table;
+use dl_rows::{Region, Table};
 use dl_rules::Index;
-use dl_theory::{Edit, Pair, Rule};
+use dl_sup::Order;
+use std::alloc::Global;
 
-/// Makes an edit for which there is room.
-pub(crate) fn change_tables(
-    edit: &Edit,
-    staged: &Staged,
-    names: &PairedNames,
-    facts: &mut Table<bool>,
-    index: &mut Index,
-)
-    requires accepted { IsAccepted staged.now.theory edit.now }
-    requires paired { IsPaired names.now.literals }
-    requires tables { HasTables (numbered staged.now.theory names.now.literals) facts.old.items index.old }
-    requires room { HasEditRoom staged.now.theory names.now.literals facts.old.items index.old edit.now }
-    ensures { HasTables (numbered (after_edit staged.now.theory edit.now) names.now.literals) facts.new.items index.new }
-{
-    let _count = names.len();
-    match edit {
-        Edit::AddRule(rule) => add_rule(rule, staged, names, index),
-        Edit::DropRule(label) => drop_rule(label, staged, index),
-        Edit::AddFact(fact) => add_fact(fact, staged, names, facts),
-        Edit::DropFact(fact) => drop_fact(fact, staged, names, facts),
-        Edit::AddPair(pair) => add_pair(pair, staged, names, index),
-        Edit::DropPair(pair) => drop_pair(pair, staged, index),
+/// The numbers of a theory's literals, and its facts, rules and pairs by number. No literal and no rule is kept but by numbers.
+pub struct Tables {
+    pub(crate) names: PairedNames,
+    /// The labels of rules, by number.
+    pub(crate) labels: RuleLabels,
+    pub(crate) facts: FactNumbers,
+    pub(crate) pairs: PairNumbers,
+    /// By number of a literal, whether it is a fact.
+    pub(crate) marks: Table<bool>,
+    pub(crate) index: Index,
+    /// The order of the pairs, once one was to be added: it tells whether that would close a cycle.
+    pub(crate) order: Option<Order>,
+    /// What the last long body met. It is kept for its room, so that an edit makes none by how many names there are.
+    pub(crate) seen: Region,
+}
+
+impl Drop for Tables {
+    fn drop(self) {
+        let Tables {
+            names: _,
+            labels: _,
+            facts: _,
+            pairs: _,
+            marks: _,
+            index: _,
+            order: _,
+            seen: _,
+        } = self;
     }
 }
 
-/// The rule for which there is room goes last.
-fn add_rule(_rule: &Rule, _staged: &Staged, _names: &PairedNames, index: &mut Index)
-    requires accepted { IsAccepted _staged.now.theory (Edit.AddRule _rule.now) }
-    requires ready { index.old.ready ≡ Some (line_in _names.now.literals _rule.now) }
-    requires index { HasIndex (numbered _staged.now.theory _names.now.literals) index.old }
-    ensures { HasIndex (numbered (after_edit _staged.now.theory (Edit.AddRule _rule.now)) _names.now.literals) index.new }
-{
-    let _formed = _staged.rules_len();
-    index.put();
-}
+impl Tables {
+    ghost use Rattle.dl_graph.specs.Numbers.{no_net};
 
-/// The rule with a label goes, and the pairs that name it.
-fn drop_rule(label: &Name, staged: &Staged, index: &mut Index)
-    requires accepted { IsAccepted staged.now.theory (Edit.DropRule label.now) }
-    requires lines { length index.old.lines ≡ length staged.now.theory.rules }
-    ensures { (ls : List Literal) → HasIndex (numbered staged.now.theory ls) index.old → HasIndex (numbered (after_edit staged.now.theory (Edit.DropRule label.now)) ls) index.new }
-{
-    match staged.rule_place(label) {
-        None => unreachable!(),
-        Some(place) => index.take(place),
+    /// Those of the empty theory. Takes no memory.
+    pub(crate) fn make(alloc: Global) -> Tables
+        ensures kept { AreKept result }
+        ensures settled { AreSettled result }
+        ensures net { net_in result ≡ no_net }
+    {
+        Tables {
+            names: PairedNames::make(alloc),
+            labels: RuleLabels::make(alloc),
+            facts: FactNumbers::make(alloc),
+            pairs: PairNumbers::make(alloc),
+            marks: Table::make(alloc),
+            index: Index::make(alloc),
+            order: None,
+            seen: Region::none(alloc),
+        }
     }
-}
 
-/// A literal becomes a fact.
-fn add_fact(fact: &Literal, _staged: &Staged, names: &PairedNames, facts: &mut Table<bool>)
-    requires named { Contains names.now.literals fact.now }
-    requires room { number_in names.now.literals fact.now < length facts.old.items }
-    requires facts { HasFacts names.now.literals _staged.now.theory.facts facts.old.items }
-    ensures { HasFacts names.now.literals (after_edit _staged.now.theory (Edit.AddFact fact.now)).facts facts.new.items }
-{
-    match names.find(fact) {
-        None => unreachable!(),
-        Some(number) => facts.write(number, true),
+    /// What is read of them.
+    #[inline(always)]
+    pub(crate) fn graph(&self) -> Graph<'_>
+        requires { AreKept self.now }
+        ensures { result ≡ net_in self.now }
+    {
+        Graph::of(
+            &self.names,
+            &self.labels,
+            &self.facts,
+            &self.pairs,
+            &self.marks,
+            &self.index,
+        )
     }
-}
 
-/// A literal is no fact any more.
-fn drop_fact(fact: &Literal, staged: &Staged, names: &PairedNames, facts: &mut Table<bool>)
-    requires accepted { IsAccepted staged.now.theory (Edit.DropFact fact.now) }
-    requires named { All (Contains names.now.literals) staged.now.theory.facts }
-    requires facts { HasFacts names.now.literals staged.now.theory.facts facts.old.items }
-    ensures { HasFacts names.now.literals (after_edit staged.now.theory (Edit.DropFact fact.now)).facts facts.new.items }
-{
-    let _formed = staged.facts_len();
-    match names.find(fact) {
-        None => unreachable!(),
-        Some(number) => facts.write(number, false),
+    /// The number of the rule with a label; `None` exactly where no rule has it.
+    pub(crate) fn find_rule(&self, label: &Name) -> Option<usize>
+        requires { AreKept self.now }
+        ensures there { IfSome result (λ r. IsThere self.now.index.lines r) }
+        ensures label { IfSome result (λ r. get_or self.now.labels.labels r [] ≡ label.now) }
+        ensures absent { IfNone result (¬ HasLabel (theory_in self.now) label.now) }
+    {
+        self.graph().find_rule(label)
     }
-}
 
-/// Where the rules of a pair meet, the lower one goes below the upper one.
-fn add_pair(pair: &Pair, staged: &Staged, names: &PairedNames, index: &mut Index)
-    requires accepted { IsAccepted staged.now.theory (Edit.AddPair pair.now) }
-    requires distinct { IsDistinct names.now.literals }
-    requires paired { IsPaired names.now.literals }
-    requires named { All (HasLiterals names.now.literals) staged.now.theory.rules }
-    requires room { HasPairRoom staged.now.theory index.old pair.now }
-    requires index { HasIndex (numbered staged.now.theory names.now.literals) index.old }
-    ensures { HasIndex (numbered (after_edit staged.now.theory (Edit.AddPair pair.now)) names.now.literals) index.new }
-{
-    match staged.rule_place(&pair.upper) {
-        None => unreachable!(),
-        Some(upper) => match staged.rule_place(&pair.lower) {
-            None => unreachable!(),
-            Some(lower) => {
-                if meet(index, names, upper, lower) {
-                    index.put_link();
-                }
-            }
-        },
-    }
-}
-
-/// The lower rule of a pair no longer stands below the upper one.
-fn drop_pair(pair: &Pair, staged: &Staged, index: &mut Index)
-    requires accepted { IsAccepted staged.now.theory (Edit.DropPair pair.now) }
-    requires lines { length index.old.lines ≡ length staged.now.theory.rules }
-    ensures { (ls : List Literal) → HasIndex (numbered staged.now.theory ls) index.old → HasIndex (numbered (after_edit staged.now.theory (Edit.DropPair pair.now)) ls) index.new }
-{
-    let _formed = staged.pairs_len();
-    match staged.rule_place(&pair.upper) {
-        None => unreachable!(),
-        Some(upper) => match staged.rule_place(&pair.lower) {
-            None => unreachable!(),
-            Some(lower) => index.take_link(upper, lower),
-        },
+    /// The same tables once more, without the order of the pairs. `Memory` where there is none for them.
+    pub(crate) fn copy(&self) -> Result<Tables, Memory>
+        requires kept { AreKept self.now }
+        requires settled { AreSettled self.now }
+        ensures kept { IfOk result AreKept }
+        ensures settled { IfOk result AreSettled }
+        ensures net { IfOk result (λ copy. net_in copy ≡ net_in self.now) }
+    {
+        let names = self.names.copy()?;
+        let labels = self.labels.copy()?;
+        let facts = self.facts.copy()?;
+        let pairs = self.pairs.copy()?;
+        let marks = self.marks.copy()?;
+        let index = self.index.copy()?;
+        let seen = Region::none(self.marks.alloc());
+        Ok(Tables {
+            names,
+            labels,
+            facts,
+            pairs,
+            marks,
+            index,
+            order: None,
+            seen,
+        })
     }
 }

@@ -7,7 +7,7 @@ ghost use Rattle.dl_lit.specs.Borrowed.{literal_of};
 ghost use Rattle.dl_print.specs.Conclusion.{verdict_byte, verdict_text, conclusion_text};
 
 use crate::requests::family_letter;
-use crate::write::write_borrowed;
+use crate::write::write_literal_ref;
 use dl_io::{Failed, Sink, write_all};
 use dl_lit::{Family, LiteralRef};
 use dl_theory::Verdict;
@@ -43,5 +43,5 @@ pub fn write_conclusion<S: Sink>(
     ensures name { S.name sink.new ≡ S.name sink.old }
 {
     write_verdict(sink, verdict, family)?;
-    write_borrowed(sink, literal)
+    write_literal_ref(sink, literal)
 }

@@ -1,6 +1,6 @@
 -- What the nodes of propagating and support mean, and that at the end of a run exactly what follows has fired.
 use Rattle.std.proofs.Common.{◌≡◌, ℕ, zero, suc, ◌+◌, ◌*◌, ◌<◌, ◌≤◌, Bool, true, false, Some, List, [], ◌∷◌, length, inl, inr, sym, subst, ap, refl, arith, true≢false}
-use Rattle.std.specs.Prelude.{◌⊎◌, Contains, IsTrue, nat_lt, MatchOption}
+use Rattle.std.specs.Prelude.{◌⊎◌, Contains, IsTrue, MatchOption}
 use Rattle.std.proofs.lemmas.Bool.{ltb-true}
 use Rattle.dl_base.proofs.Members.{only}
 use Rattle.dl_lit.specs.declared.literal.Tagged.{Tagged}
@@ -12,23 +12,24 @@ use Rattle.dl_theory.specs.Conditions.{Condition}
 use Rattle.dl_theory.specs.Derivations.{Follows}
 use Rattle.dl_theory.specs.Verdicts.{needs}
 use Rattle.dl_marks.specs.Marks.{Marking}
-use Rattle.dl_net.specs.Region.{Numbers}
-use Rattle.dl_net.specs.Counting.{times}
-use Rattle.dl_net.specs.Numbers.{NetLists, IsNumbered, literal_at, rule_at}
-use Rattle.dl_net.specs.declared.link.Link.TheVariants.{Backs, Defends, Counters}
+use Rattle.dl_graph.specs.Region.{Numbers}
+use Rattle.dl_graph.specs.Counting.{times}
+use Rattle.dl_graph.specs.Numbers.{NetLists, IsNumbered, HasRule, literal_at, rule_at}
+use Rattle.dl_graph.proofs.Slots.{rule_within}
+use Rattle.dl_graph.specs.declared.link.Link.TheVariants.{Backs, Defends, Counters}
 use Rattle.dl_fill.specs.declared.wire.Gate.TheVariants.{Never}
 use Rattle.dl_fill.specs.Wires.{inputs_at}
 use Rattle.dl_fill.specs.Reads.{Reads, basis_at}
 use Rattle.dl_fill.specs.Steps.{tag_at}
 use Rattle.dl_fill.specs.Gates.{Passes}
 use Rattle.dl_fill.specs.Rivals.{Defending, Countering}
-use Rattle.dl_fill.specs.Before.{Before, tag_of, is_inside, before_of, IsExact, IsExactOutside}
+use Rattle.dl_fill.specs.Before.{Before, tag_of, is_rule, is_inside, before_of, IsExact, IsExactOutside}
 use Rattle.dl_fill.specs.Prepared.{is_touched_at}
 use Rattle.dl_fill.specs.Touched.{Touches}
 use Rattle.dl_fill.specs.Meanings.{HasTag, IsOnAt, IsOffAt, IsSupported, IsUnsupported, IsAnswered, IsUnanswered, IsAnsweredBy, IsUnansweredBy}
 use Rattle.dl_fill.specs.Families.{IsSound}
 use Rattle.dl_fill.proofs.Links.{backs_listing, defends_listing, counters_listing}
-use Rattle.dl_fill.proofs.Gating.{IsGotOutside, open_gate, below, on_sound, off_sound, on_passes, off_passes, supported_sound, supported_passes, unsupported_sound, unsupported_passes, answered_sound, answered_passes, unanswered_sound, unanswered_passes}
+use Rattle.dl_fill.proofs.Gating.{IsGotOutside, open_gate, at_rule, on_sound, off_sound, on_passes, off_passes, supported_sound, supported_passes, unsupported_sound, unsupported_passes, answered_sound, answered_passes, unanswered_sound, unanswered_passes}
 use Rattle.dl_fill.proofs.Concluding.{plus_sound, minus_sound, plus_passes, minus_passes}
 use Rattle.dl_fill.proofs.Ruled.{concluded_sound, concluded_passes, refuted_sound, refuted_passes}
 use Rattle.dl_fill.proofs.Exact.{literal_touched, rule_touched}
@@ -72,7 +73,7 @@ module _ (N : NetLists) (numbered : IsNumbered N) (m : Marking) (region : Number
     at : (k i : ℕ) → k < 14 → Node (i * 14 + k) → Means propagation_table part N region.members got k i
     at k i small m = meant_at propagation_table part N region.members got k i small m
 
-    rule_concluded : (k r : ℕ) → Passes Node (below r (length N.theory.rules) (rule_gate N b k r)) (inputs_at N inside 14 propagation_wires (suc (suc (suc (suc (suc (suc k)))))) r)
+    rule_concluded : (k r : ℕ) → Passes Node (at_rule N r (rule_gate N b k r)) (inputs_at N inside 14 propagation_wires (suc (suc (suc (suc (suc (suc k)))))) r)
         → part N got (suc (suc (suc (suc (suc (suc k)))))) r
     rule_concluded zero r h = on_sound N numbered b Propagating got (outer Propagating refl) Node 14 0 (omega arith) r (λ i m. (at 0 i (omega arith) m).1) h
     rule_concluded (suc zero) r h = off_sound N numbered b Propagating got (outer Propagating refl) Node 14 1 (omega arith) r (λ i m. (at 1 i (omega arith) m).1) h
@@ -91,7 +92,7 @@ module _ (N : NetLists) (numbered : IsNumbered N) (m : Marking) (region : Number
         answered_sound N numbered got Node 14 (Countering N.theory) Counters (counters_listing N numbered) Propagating Support
         11 6 (omega arith) (omega arith) r (λ i m. at 11 i (omega arith) m) (λ i m. at 6 i (omega arith) m) h
     rule_concluded (suc (suc (suc (suc (suc (suc (suc (suc k)))))))) r h =
-        (open_gate Node (nat_lt r (length N.theory.rules)) Never
+        (open_gate Node (is_rule N r) Never
         (inputs_at N inside 14 propagation_wires (suc (suc (suc (suc (suc (suc (suc (suc (suc (suc (suc (suc (suc (suc k)))))))))))))) r) h).1
 
     pub concluded : (k i : ℕ) → (k < 6 → is_inside region.members i ≡ true)
@@ -130,7 +131,7 @@ module _ (N : NetLists) (numbered : IsNumbered N) (m : Marking) (region : Number
 
   -- what fires, where nodes have fired that are touched and whose gates are passed
   module _ (outside : (f : Family) → IsTrue (filled f) → IsExactOutside N (before_of m region) f) (rules : List ℕ) (touches : Touches N region.members rules)
-      (places : ℕ) (names_fit : length N.names ≤ places) (rules_fit : length N.theory.rules ≤ places) (Fired : ℕ → Type 0)
+      (places : ℕ) (names_fit : length N.names ≤ places) (rules_fit : length N.rules ≤ places) (Fired : ℕ → Type 0)
       (passes : (k i : ℕ) → k < 14 → i < places → is_touched_at 6 region.members rules k i ≡ true
       → Passes Fired (propagation_gate N (before_of m region) k i) (inputs_at N (is_inside region.members) 14 propagation_wires k i) → Fired (i * 14 + k))
       (got : Tagged → Type 0) (follows : (y : Tagged) → got y → Follows N.theory y)
@@ -142,22 +143,22 @@ module _ (N : NetLists) (numbered : IsNumbered N) (m : Marking) (region : Number
 
       on_fires : IsOnAt N got Propagating r → Fired (r * 14 + 6)
       on_fires m =
-          passes 6 r (omega arith) (omega (arith, m.0, rules_fit)) (touched 6 (omega arith))
+          passes 6 r (omega arith) (omega (arith, rule_within N r m.0, rules_fit)) (touched 6 (omega arith))
           (on_passes N numbered b Propagating (outside Propagating refl) Fired 14 0 (omega arith) r got follows m (fired Propagating refl true))
 
       off_fires : IsOffAt N got Propagating r → Fired (r * 14 + 7)
       off_fires m =
-          passes 7 r (omega arith) (omega (arith, m.0, rules_fit)) (touched 7 (omega arith))
+          passes 7 r (omega arith) (omega (arith, rule_within N r m.0, rules_fit)) (touched 7 (omega arith))
           (off_passes N numbered b Propagating (outside Propagating refl) Fired 14 1 (omega arith) r got follows m (fired Propagating refl false))
 
       backed_fires : IsOnAt N got Support r → Fired (r * 14 + 10)
       backed_fires m =
-          passes 10 r (omega arith) (omega (arith, m.0, rules_fit)) (touched 10 (omega arith))
+          passes 10 r (omega arith) (omega (arith, rule_within N r m.0, rules_fit)) (touched 10 (omega arith))
           (on_passes N numbered b Support (outside Support refl) Fired 14 4 (omega arith) r got follows m (fired Support refl true))
 
       unbacked_fires : IsOffAt N got Support r → Fired (r * 14 + 11)
       unbacked_fires m =
-          passes 11 r (omega arith) (omega (arith, m.0, rules_fit)) (touched 11 (omega arith))
+          passes 11 r (omega arith) (omega (arith, rule_within N r m.0, rules_fit)) (touched 11 (omega arith))
           (off_passes N numbered b Support (outside Support refl) Fired 14 5 (omega arith) r got follows m (fired Support refl false))
 
     -- at a member of the region
@@ -168,16 +169,16 @@ module _ (N : NetLists) (numbered : IsNumbered N) (m : Marking) (region : Number
       at_member : (k : ℕ) → k < 6 → is_touched_at 6 region.members rules k q ≡ true
       at_member k small = literal_touched 6 region.members rules k q small member
 
-      supporter : (r : ℕ) → r < length N.theory.rules → Supports (literal_at N q) (rule_at N r) → 0 < times r rules
+      supporter : (r : ℕ) → HasRule N r → Supports (literal_at N q) (rule_at N r) → 0 < times r rules
       supporter r l h = supports_touched N numbered region.members rules touches q member lt r l h
 
-      attacker : (u : ℕ) → u < length N.theory.rules → Opposes N.theory (literal_at N q) (rule_at N u) → 0 < times u rules
+      attacker : (u : ℕ) → HasRule N u → Opposes N.theory (literal_at N q) (rule_at N u) → 0 < times u rules
       attacker u l h = opposes_touched N numbered region.members rules touches q member lt u l h
 
-      defender : (u t : ℕ) → t < length N.theory.rules → Opposes N.theory (literal_at N q) (rule_at N u) → Defending N.theory (rule_at N u) (rule_at N t) → 0 < times t rules
+      defender : (u t : ℕ) → HasRule N t → Opposes N.theory (literal_at N q) (rule_at N u) → Defending N.theory (rule_at N u) (rule_at N t) → 0 < times t rules
       defender u t l o d = supporter t l (attack_meets N.theory (rule_at N t).head (literal_at N q) (rule_at N u).head d.1 o, d.2)
 
-      counterer : (r u : ℕ) → u < length N.theory.rules → Supports (literal_at N q) (rule_at N r) → Countering N.theory (rule_at N r) (rule_at N u) → 0 < times u rules
+      counterer : (r u : ℕ) → HasRule N u → Supports (literal_at N q) (rule_at N r) → Countering N.theory (rule_at N r) (rule_at N u) → 0 < times u rules
       counterer r u l s c = attacker u l (counters_opposes N.theory got (literal_at N q) (rule_at N r) (rule_at N u) s.0 c)
 
       supported_fires : IsSupported N got Propagating q → Fired (q * 14 + 2)
@@ -192,25 +193,25 @@ module _ (N : NetLists) (numbered : IsNumbered N) (m : Marking) (region : Number
 
       answered_fires : (u : ℕ) → Opposes N.theory (literal_at N q) (rule_at N u) → IsAnswered N got Propagating Support u → Fired (u * 14 + 8)
       answered_fires u o m =
-          passes 8 u (omega arith) (omega (arith, m.0, rules_fit)) (touched u (attacker u m.0 o) 8 (omega arith))
+          passes 8 u (omega arith) (omega (arith, rule_within N u m.0, rules_fit)) (touched u (attacker u m.0 o) 8 (omega arith))
           (answered_passes N numbered got Fired 14 (Defending N.theory) Defends (defends_listing N numbered) Propagating Support 11 6 (omega arith) (omega arith) u m
           (unbacked_fires u (attacker u m.0 o)) (λ t defends on. on_fires t (defender u t on.0 o defends) on))
 
       unanswered_fires : (u : ℕ) → Opposes N.theory (literal_at N q) (rule_at N u) → IsUnanswered N got Propagating Support u → Fired (u * 14 + 9)
       unanswered_fires u o m =
-          passes 9 u (omega arith) (omega (arith, m.0, rules_fit)) (touched u (attacker u m.0 o) 9 (omega arith))
+          passes 9 u (omega arith) (omega (arith, rule_within N u m.0, rules_fit)) (touched u (attacker u m.0 o) 9 (omega arith))
           (unanswered_passes N numbered got Fired 14 (Defending N.theory) Defends (defends_listing N numbered) Propagating Support 10 7 (omega arith) (omega arith) u m
           (backed_fires u (attacker u m.0 o)) (λ t defends off. off_fires t (defender u t off.0 o defends) off))
 
       stands_fires : (r : ℕ) → Supports (literal_at N q) (rule_at N r) → IsUnansweredBy N got (Countering N.theory) Propagating Support r → Fired (r * 14 + 12)
       stands_fires r s m =
-          passes 12 r (omega arith) (omega (arith, m.0, rules_fit)) (touched r (supporter r m.0 s) 12 (omega arith))
+          passes 12 r (omega arith) (omega (arith, rule_within N r m.0, rules_fit)) (touched r (supporter r m.0 s) 12 (omega arith))
           (unanswered_passes N numbered got Fired 14 (Countering N.theory) Counters (counters_listing N numbered) Propagating Support 10 7 (omega arith) (omega arith) r m
           (backed_fires r (supporter r m.0 s)) (λ u counters off. off_fires u (counterer r u off.0 s counters) off))
 
       falls_fires : (r : ℕ) → Supports (literal_at N q) (rule_at N r) → IsAnsweredBy N got (Countering N.theory) Propagating Support r → Fired (r * 14 + 13)
       falls_fires r s m =
-          passes 13 r (omega arith) (omega (arith, m.0, rules_fit)) (touched r (supporter r m.0 s) 13 (omega arith))
+          passes 13 r (omega arith) (omega (arith, rule_within N r m.0, rules_fit)) (touched r (supporter r m.0 s) 13 (omega arith))
           (answered_passes N numbered got Fired 14 (Countering N.theory) Counters (counters_listing N numbered) Propagating Support 11 6 (omega arith) (omega arith) r m
           (unbacked_fires r (supporter r m.0 s)) (λ u counters on. on_fires u (counterer r u on.0 s counters) on))
 

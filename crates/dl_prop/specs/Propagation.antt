@@ -3,8 +3,8 @@ use Rattle.std.specs.Prelude.{ℕ, zero, suc, Bool, true, false, cond, Option, N
 use Rattle.dl_lit.specs.declared.literal.Family.{Family}
 use Rattle.dl_lit.specs.declared.literal.Family.TheVariants.{Definite, Blocking, Propagating, Support}
 use Rattle.dl_lit.specs.declared.literal.Tag.{Tag}
-use Rattle.dl_net.specs.Numbers.{NetLists}
-use Rattle.dl_net.specs.declared.link.Link.TheVariants.{Same, Uses, Backs, Opposes, Defends, Counters}
+use Rattle.dl_graph.specs.Numbers.{NetLists}
+use Rattle.dl_graph.specs.declared.link.Link.TheVariants.{Same, Uses, Backs, Opposes, Defends, Counters}
 use Rattle.dl_fill.specs.declared.wire.Wire.{Wire}
 use Rattle.dl_fill.specs.declared.basis.Basis.{Basis}
 use Rattle.dl_fill.specs.declared.basis.Basis.TheVariants.{Prevailing, Failing, Sure, Unsure, Nothing}
@@ -12,7 +12,7 @@ use Rattle.dl_fill.specs.declared.wire.Gate.{Gate}
 use Rattle.dl_fill.specs.declared.wire.Gate.TheVariants.{Every, Either, Never}
 use Rattle.dl_fill.specs.Families.{FamilyTable}
 use Rattle.dl_fill.specs.Filled.{either_kind}
-use Rattle.dl_fill.specs.Before.{Before, tag_of, attack_fails, attack_holds, outside_is_on, outside_is_off, on_gate, off_gate, plus_gate, minus_gate, some_gate, each_gate}
+use Rattle.dl_fill.specs.Before.{Before, tag_of, is_rule, attack_fails, attack_holds, outside_is_on, outside_is_off, on_gate, off_gate, plus_gate, minus_gate, some_gate, each_gate}
 
 -- kinds of a literal: 0 concluded, 1 refuted, 2 supported, 3 unsupported in propagating; 4 concluded, 5 refuted in support.
 -- Kinds of a rule: 6 on, 7 off, 8 answered, 9 on and unanswered in propagating, where attackers are judged by support;
@@ -87,7 +87,7 @@ propagation_gate N b (suc (suc zero)) q = cond (nat_lt q (length N.names)) (lite
 propagation_gate N b (suc (suc (suc zero))) q = cond (nat_lt q (length N.names)) (literal_gate N b.marked 3 q) Never
 propagation_gate N b (suc (suc (suc (suc zero)))) q = cond (nat_lt q (length N.names)) (literal_gate N b.marked 4 q) Never
 propagation_gate N b (suc (suc (suc (suc (suc zero))))) q = cond (nat_lt q (length N.names)) (literal_gate N b.marked 5 q) Never
-propagation_gate N b (suc (suc (suc (suc (suc (suc k)))))) r = cond (nat_lt r (length N.theory.rules)) (rule_gate N b k r) Never
+propagation_gate N b (suc (suc (suc (suc (suc (suc k)))))) r = cond (is_rule N r) (rule_gate N b k r) Never
 
 -- the two families are filled together
 abbrev pub propagation_fills : Family → Bool

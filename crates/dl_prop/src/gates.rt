@@ -10,9 +10,9 @@ use dl_fill::{
     Basis, FamilyGates, Gate, Gates, Wire, attack_fails, attack_holds, gate_of_each, gate_of_minus,
     gate_of_off, gate_of_on, gate_of_plus, gate_of_some, outside_is_off, outside_is_on, wires,
 };
+use dl_graph::{Graph, Link, Region};
 use dl_lit::{Family, Tag};
 use dl_marks::Marks;
-use dl_net::{Graph, Link, Region};
 
 /// How many kinds of nodes the two families have.
 const WIDTH: usize = 14;
@@ -137,7 +137,7 @@ impl Gates for PropGates {
             } else {
                 Gate::Never
             }
-        } else if place < net.rules_len() {
+        } else if net.has_rule(place) {
             gate_of_rule(net, marks, region, kind - 6, place)
         } else {
             Gate::Never

@@ -4,3 +4,4 @@ pub mod Keeping
 pub mod RowLemmas
 pub mod PackedLemmas
 pub mod RegionLemmas
+pub mod There

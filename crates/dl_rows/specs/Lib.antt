@@ -9,3 +9,4 @@ pub mod PackedView
 pub mod Counting
 pub mod Rows
 pub mod Region
+pub mod There

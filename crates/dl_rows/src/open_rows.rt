@@ -47,6 +47,18 @@ impl OpenRows {
         Ok(OpenRows { rows })
     }
 
+    /// The same lists, each with room of its own.
+    pub fn copy(&self) -> Result<OpenRows, Memory>
+        ensures { IfOk result (λ copy. copy.lists ≡ self.now.lists) }
+    {
+        let alloc = *self.rows.allocator();
+        let mut rows = Vec::with_capacity(alloc, self.rows.len())?;
+        for number in 0..self.rows.len() {
+            rows.push(Row::of(alloc, self.row(number))?)?;
+        }
+        Ok(OpenRows { rows })
+    }
+
     /// One more list, which is empty.
     pub fn grow(&mut self) -> Result<(), Memory>
         ensures kept { KeepsLists self.old self.new }

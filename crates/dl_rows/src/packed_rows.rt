@@ -58,6 +58,17 @@ impl PackedRows {
         Ok(PackedRows { spans, items })
     }
 
+    /// The same lists, packed in the same room.
+    pub fn copy(&self) -> Result<PackedRows, Memory>
+        ensures { IfOk result (λ copy. copy ≡ self.now) }
+    {
+        let mut spans = Vec::new(self.alloc());
+        spans.extend_from_slice(&self.spans)?;
+        let mut items = Vec::new(self.alloc());
+        items.extend_from_slice(&self.items)?;
+        Ok(PackedRows { spans, items })
+    }
+
     /// Where its memory comes from.
     pub fn alloc(&self) -> Global {
         *self.items.allocator()

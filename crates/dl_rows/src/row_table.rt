@@ -59,6 +59,17 @@ impl RowTable {
         })
     }
 
+    /// The same lists once more. `Memory` where there is none for them.
+    pub fn copy(&self) -> Result<RowTable, Memory>
+        ensures { IfOk result (λ copy. copy.lists ≡ self.now.lists) }
+    {
+        let rows = match &self.rows {
+            Rows::Open(rows) => Rows::Open(rows.copy()?),
+            Rows::Packed(rows) => Rows::Packed(rows.copy()?),
+        };
+        Ok(RowTable { rows })
+    }
+
     /// One more list, which is empty. Packed lists are opened for it, once for all. `Memory` leaves the table as it was.
     pub fn grow(&mut self) -> Result<(), Memory>
         ensures kept { KeepsLists self.old self.new }

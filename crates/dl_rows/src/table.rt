@@ -1,6 +1,6 @@
 //! Lists whose places may be written.
 
-ghost use Rattle.std.specs.Prelude.{◌≡◌, ℕ, ◌+◌, ◌<◌, ◌≤◌, [], ◌∷◌, ◌++◌, OnOk, OnErr, length, get_or, set, remove};
+ghost use Rattle.std.specs.Prelude.{◌≡◌, ℕ, ◌+◌, ◌<◌, ◌≤◌, [], ◌∷◌, ◌++◌, OnOk, OnErr, IfOk, length, get_or, set, remove};
 
 use dl_base::Memory;
 use std::alloc::Global;
@@ -114,5 +114,14 @@ impl<T: Copy> Table<T> {
     {
         self.items.resize(len, item)?;
         Ok(())
+    }
+
+    /// An equal table.
+    pub fn copy(&self) -> Result<Table<T>, Memory>
+        ensures items { IfOk result (λ copy. copy.items ≡ self.now.items) }
+    {
+        let mut items = Vec::new(self.alloc());
+        items.extend_from_slice(&self.items)?;
+        Ok(Table { items })
     }
 }

@@ -1,8 +1,9 @@
 pub mod OnceLemmas
 pub mod LineLemmas
+pub mod ThereLemmas
 pub mod PlaceLemmas
+pub mod NumberLemmas
 pub mod RuleLemmas
 pub mod LinkLemmas
-pub mod OrderLemmas
 pub mod TakeLemmas
 pub mod PutLemmas

@@ -1,49 +1,25 @@
--- Places of rules, from their inner numbers.
-use Rattle.std.proofs.Common.{◌≡◌, ℕ, suc, ◌+◌, ◌<◌, ◌≤◌, Bool, true, false, List, [], ◌∷◌, ◌++◌, length, get_or, map, replicate, refl, sym, ap, subst, ◌∙◌, arith, cond, true≢false}
-use Rattle.std.specs.Prelude.{All, Contains, filter, not, ◌==◌, ◌||◌, ◌&&◌}
-use Rattle.std.proofs.lemmas.List.Elements.{All-head, All-tail, All-weaker, All-contains, All-contains_itself, All-filter}
+-- The numbers of the rules whose rows have a literal.
+use Rattle.std.proofs.Common.{◌≡◌, ℕ, zero, suc, ◌+◌, ◌<◌, ◌≤◌, Bool, true, false, Option, None, Some, List, [], ◌∷◌, ◌++◌, length, get_or, set, map, replicate, refl, sym, ap, subst, ◌∙◌, arith, cond, inl, inr, true≢false, append_assoc, append-nil, length-append, get_or-set_same, get_or-set_other}
+use Rattle.std.specs.Prelude.{All, IsSome, filter, not, unwrap_or, ◌==◌, ◌||◌}
+use Rattle.std.proofs.Math.ListN.{length-set}
+use Rattle.std.proofs.lemmas.Bool.{cases_eq}
+use Rattle.std.proofs.lemmas.List.{length-replicate}
 use Rattle.std.proofs.lemmas.Bool.Decides.{Decides-eqb}
-use Rattle.std.proofs.Math.ListN.{length-map}
-use Rattle.std.proofs.lemmas.List.{get_or-map}
-use Rattle.dl_base.proofs.Filters.{filter_mapped, length-filter_le}
-use Rattle.dl_theory.specs.Lists.{can_support}
-use Rattle.dl_rules.proofs.LinkLemmas.{member_place}
+use Rattle.std.proofs.lemmas.List.Elements.{All-nil, All-append, All-replicate, filter-append}
 use Rattle.dl_rows.specs.Counting.{times, each_once, is_in}
-use Rattle.dl_rows.proofs.RowLemmas.{row_in}
 use Rattle.dl_rows.specs.Rows.{row, places_from, places}
-use Rattle.dl_rows.specs.Tables.{RowLists, list_at}
-use Rattle.dl_rules.specs.Lines.{Line, no_line, passes, kind_row, heads_row, uses_row, line_at}
-use Rattle.dl_rules.specs.Indexes.{place_in, HasRules}
+use Rattle.dl_rows.specs.Tables.{drop_item}
+use Rattle.dl_rows.proofs.NumberLists.{alike, differ}
+use Rattle.dl_rules.specs.Lines.{Line, no_line, line_at, passes, kind_row, heads_row, uses_row, IsThere}
 
 abbrev pub one : Bool → ℕ
 one b = cond b 1 0
 
--- the places of those that pass a test are the places of the rows that have the number
--- what a rule can prove
-pub row_kind : (strict : Bool) (lines : List Line) (k : ℕ) → k < length lines
-    → row (kind_row strict) lines k ≡ cond (passes strict (get_or lines k no_line).kind) ((get_or lines k no_line).head ∷ []) []
-row_kind strict lines k lt = row_in (kind_row strict) lines k no_line lt
+-- ---- how often a number stands in a row
 
-module _ {L : Type 0} (g : L → List ℕ) (q : ℕ) (t : ℕ → Bool) (f : ℕ → L) (place : ℕ → ℕ) where
-  pub places_are : (xs : List ℕ) (k : ℕ) → ((i : ℕ) → i < length xs → place (get_or xs i 0) ≡ i + k)
-      → All (λ s. times q (g (f s)) ≡ one (t s)) xs → map place (filter t xs) ≡ places_from g k (map f xs) q
-  places_are [] k h same = refl
-  places_are (x ∷ xs) k h same =
-      step (t x) (All-head (λ s. times q (g (f s)) ≡ one (t s)) x xs same)
-      (places_are xs (suc k) (λ i lt. omega (arith, h (suc i) (omega (arith, lt)))) (All-tail (λ s. times q (g (f s)) ≡ one (t s)) x xs same))
-    where
-      here : place x ≡ k
-      here = omega (arith, h 0 (omega arith))
-
-      step : (b : Bool) → times q (g (f x)) ≡ one b → map place (filter t xs) ≡ places_from g (suc k) (map f xs) q
-          → map place (cond b (x ∷ filter t xs) (filter t xs)) ≡ replicate (times q (g (f x))) k ++ places_from g (suc k) (map f xs) q
-      step true e more = (λ i. here i ∷ more i) ∙ sym (ap (λ n. replicate n k ++ places_from g (suc k) (map f xs) q) e)
-      step false e more = more ∙ sym (ap (λ n. replicate n k ++ places_from g (suc k) (map f xs) q) e)
-
-pub places-map : {L M : Type 0} (g : M → List ℕ) (f : L → M) (xs : List L) (k q : ℕ)
-    → places_from g k (map f xs) q ≡ places_from (λ x. g (f x)) k xs q
-places-map g f [] k q = refl
-places-map g f (x ∷ xs) k q = ap (λ ys. replicate (times q (g (f x))) k ++ ys) (places-map g f xs (suc k) q)
+times_cond : (q y : ℕ) (v : Bool) (ys : List ℕ) → times q (cond v (y ∷ ys) ys) ≡ cond v (one (q == y)) 0 + times q ys
+times_cond q y true ys = refl
+times_cond q y false ys = omega arith
 
 join : (a b e : Bool) (n : ℕ) → (e ≡ true → a ≡ b) → cond a (one e) 0 + cond b n 0 ≡ cond b (one e + n) 0
 join true true e n h = refl
@@ -53,11 +29,7 @@ join true false true n h = absurd (true≢false (h refl))
 join false true false n h = refl
 join false true true n h = absurd (true≢false (sym (h refl)))
 
-times_cond : (q y : ℕ) (v : Bool) (ys : List ℕ) → times q (cond v (y ∷ ys) ys) ≡ cond v (one (q == y)) 0 + times q ys
-times_cond q y true ys = refl
-times_cond q y false ys = omega arith
-
-pub times-filter : (p : ℕ → Bool) (q : ℕ) (ys : List ℕ) → times q (filter p ys) ≡ cond (p q) (times q ys) 0
+times-filter : (p : ℕ → Bool) (q : ℕ) (ys : List ℕ) → times q (filter p ys) ≡ cond (p q) (times q ys) 0
 times-filter p q [] = by (p q)
   where
     by : (v : Bool) → ◌≡◌ {A = ℕ} 0 (cond v 0 0)
@@ -82,83 +54,143 @@ times_once (x ∷ xs) q =
 pub times_single : (q y : ℕ) → times q (y ∷ []) ≡ one (q == y)
 times_single q y = omega arith
 
-filter_and : {X : Type 0} (p : X → Bool) (x : X) (b : Bool) (us vs : List X) → filter p us ≡ vs
-    → filter p (cond b (x ∷ us) us) ≡ cond (b && p x) (x ∷ vs) vs
-filter_and {X} p x true us vs e = ap (λ (ys : List X). cond (p x) (x ∷ ys) ys) e
-filter_and p x false us vs e = e
+one_most : (b : Bool) → one b ≤ 1
+one_most true = omega arith
+one_most false = omega arith
 
-pub filter_both : {X : Type 0} (p t : X → Bool) (xs : List X) → filter p (filter t xs) ≡ filter (λ x. t x && p x) xs
-filter_both p t [] = refl
-filter_both p t (x ∷ xs) = filter_and p x (t x) (filter t xs) (filter (λ y. t y && p y) xs) (filter_both p t xs)
+pub times_head_most : (n : ℕ) (o : Option Line) → times n (heads_row o) ≤ 1
+times_head_most n None = omega arith
+times_head_most n (Some l) = omega (arith, times_single n l.head, one_most (n == l.head))
 
-times_kind : (q y : ℕ) (v : Bool) → times q (cond v (y ∷ []) []) ≡ one ((q == y) && v)
-times_kind q y true = by (q == y)
+from_one : (b : Bool) → 0 < one b → b ≡ true
+from_one true h = refl
+from_one false h = absurd (omega (arith, h))
+
+-- what stands in a row of a head or of a body was there
+pub head_times : (n : ℕ) (o : Option Line) → 0 < times n (heads_row o) → (n == (unwrap_or o no_line).head) ≡ true
+head_times n None h = absurd (omega (arith, h))
+head_times n (Some l) h = from_one (n == l.head) (subst (λ (k : ℕ). 0 < k) (times_single n l.head) h)
+
+pub use_times : (n : ℕ) (o : Option Line) → 0 < times n (uses_row o) → is_in (unwrap_or o no_line).body n ≡ true
+use_times n None h = absurd (omega (arith, h))
+use_times n (Some l) h = from_one (is_in l.body n) (subst (λ (k : ℕ). 0 < k) (times_once l.body n) h)
+
+pub head_row_there : (n : ℕ) (o : Option Line) → 0 < times n (heads_row o) → IsSome o
+head_row_there n None h = absurd (omega (arith, h))
+head_row_there n (Some l) h = refl
+
+-- ---- places in general
+
+filter_replicate : (p : ℕ → Bool) (m k : ℕ) (b : Bool) → p k ≡ b → filter p (replicate m k) ≡ replicate (cond b m 0) k
+filter_replicate p zero k true e = refl
+filter_replicate p zero k false e = refl
+filter_replicate p (suc m) k true e =
+    ap (λ v. cond v (k ∷ filter p (replicate m k)) (filter p (replicate m k))) e ∙ ap (λ (ks : List ℕ). k ∷ ks) (filter_replicate p m k true e)
+filter_replicate p (suc m) k false e =
+    ap (λ v. cond v (k ∷ filter p (replicate m k)) (filter p (replicate m k))) e ∙ filter_replicate p m k false e
+
+all_replicate : (P : ℕ → Type 0) (n k : ℕ) → (0 < n → P k) → All P (replicate n k)
+all_replicate P zero k h = All-nil P
+all_replicate P (suc n) k h = All-replicate P (suc n) k (h (omega arith))
+
+-- the places of one list that pass a test are those of another
+pub places_filtered : {X Y : Type 0} (f : X → List ℕ) (g : Y → List ℕ) (p : ℕ → Bool) (q : ℕ) (xs : List X) (ys : List Y) (k : ℕ) (d : X) (e : Y)
+    → length xs ≡ length ys
+    → ((i j : ℕ) → k + i ≡ j → i < length xs → cond (p j) (times q (f (get_or xs i d))) 0 ≡ times q (g (get_or ys i e)))
+    → filter p (places_from f k xs q) ≡ places_from g k ys q
+places_filtered f g p q [] [] k d e long same = refl
+places_filtered f g p q [] (y ∷ ys) k d e long same = absurd (omega (arith, long))
+places_filtered f g p q (x ∷ xs) [] k d e long same = absurd (omega (arith, long))
+places_filtered f g p q (x ∷ xs) (y ∷ ys) k d e long same =
+    filter-append p (replicate (times q (f x)) k) (places_from f (suc k) xs q)
+    ∙ ap (λ (zs : List ℕ). zs ++ filter p (places_from f (suc k) xs q))
+    (filter_replicate p (times q (f x)) k (p k) refl ∙ ap (λ n. replicate n k) (same 0 k (omega arith) (omega arith)))
+    ∙ ap (λ (zs : List ℕ). replicate (times q (g y)) k ++ zs)
+    (places_filtered f g p q xs ys (suc k) d e (omega (arith, long)) (λ i j at lt. same (suc i) j (omega (arith, at)) (omega (arith, lt))))
+
+pub places-map : {L M : Type 0} (g : M → List ℕ) (f : L → M) (xs : List L) (k q : ℕ)
+    → places_from g k (map f xs) q ≡ places_from (λ x. g (f x)) k xs q
+places-map g f [] k q = refl
+places-map g f (x ∷ xs) k q = ap (λ ys. replicate (times q (g (f x))) k ++ ys) (places-map g f xs (suc k) q)
+
+module _ {X : Type 0} (f : X → List ℕ) (q : ℕ) where
+  -- one member more
+  pub places_push : (xs : List X) (x : X) (k j : ℕ) → k + length xs ≡ j → places_from f k (xs ++ x ∷ []) q ≡ places_from f k xs q ++ replicate (times q (f x)) j
+  places_push [] x k j e = append-nil (replicate (times q (f x)) k) ∙ ap (λ n. replicate (times q (f x)) n) (omega (arith, e))
+  places_push (y ∷ ys) x k j e =
+      ap (λ (zs : List ℕ). replicate (times q (f y)) k ++ zs) (places_push ys x (suc k) j (omega (arith, e)))
+      ∙ sym (append_assoc (replicate (times q (f y)) k) (places_from f (suc k) ys q) (replicate (times q (f x)) j))
+
+  -- what is true of the place of each member whose row has the number
+  pub places_all : (P : ℕ → Type 0) (xs : List X) (k : ℕ) (d : X) → ((i j : ℕ) → k + i ≡ j → i < length xs → 0 < times q (f (get_or xs i d)) → P j)
+      → All P (places_from f k xs q)
+  places_all P [] k d h = All-nil P
+  places_all P (x ∷ xs) k d h =
+      All-append P (replicate (times q (f x)) k) (places_from f (suc k) xs q)
+      (all_replicate P (times q (f x)) k (λ some. h 0 k (omega arith) (omega arith) some))
+      (places_all P xs (suc k) d (λ i j at lt some. h (suc i) j (omega (arith, at)) (omega (arith, lt)) some))
+
+  -- where no row has the number twice
+  pub places_few : (xs : List X) (k : ℕ) → ((x : X) → times q (f x) ≤ 1) → length (places_from f k xs q) ≤ length xs
+  places_few [] k most = omega arith
+  places_few (x ∷ xs) k most =
+      omega (
+        arith,
+        length-append (replicate (times q (f x)) k) (places_from f (suc k) xs q),
+        length-replicate (times q (f x)) k,
+        places_few xs (suc k) most,
+        most x,
+      )
+
+  -- a member goes, and leaves a row without numbers
+  pub places_gone : (xs : List X) (x : ℕ) (d : X) → x < length xs → times q (f d) ≡ 0 → drop_item x (places f xs q) ≡ places f (set xs x d) q
+  places_gone xs x d lt none =
+      places_filtered f f (λ y. not (y == x)) q xs (set xs x d) 0 d d (sym (length-set xs x d))
+      (λ i j at within.
+      elim (cases_eq j x) [
+        | inl e ↦
+            let here : i ≡ x = omega (arith, at, e) in
+            ap (λ (b : Bool). cond (not b) (times q (f (get_or xs i d))) 0) (alike j x e)
+            ∙ sym none
+            ∙ ap (λ (z : X). times q (f z)) (sym (ap (λ (k : ℕ). get_or (set xs x d) k d) here ∙ get_or-set_same xs x d d lt))
+        | inr apart ↦
+            ap (λ (b : Bool). cond (not b) (times q (f (get_or xs i d))) 0) (differ j x apart)
+            ∙ ap (λ (z : X). times q (f z)) (sym (get_or-set_other xs x i d d (λ e. apart (omega (arith, at, e)))))
+      ])
+
+-- the row at a number, where none stands for what is not there
+pub row_at : {X : Type 0} (f : X → List ℕ) (xs : List X) (k : ℕ) (d : X) → f d ≡ [] → row f xs k ≡ f (get_or xs k d)
+row_at f [] k d none = sym none
+row_at f (x ∷ xs) zero d none = refl
+row_at f (x ∷ xs) (suc k) d none = row_at f xs k d none
+
+-- ---- rules
+
+pub heads_few : (lines : List (Option Line)) (n : ℕ) → length (places heads_row lines n) ≤ length lines
+heads_few lines n = places_few heads_row n lines 0 (times_head_most n)
+
+pub heads_there : (lines : List (Option Line)) (n : ℕ) → All (IsThere lines) (places heads_row lines n)
+heads_there lines n =
+    places_all heads_row n (IsThere lines) lines 0 None
+    (λ i j at lt some. subst (λ (k : ℕ). IsThere lines k) (omega (arith, at)) (head_row_there n (get_or lines i None) some))
+
+kind_step : (strict : Bool) (n : ℕ) (o : Option Line) → cond (passes strict (unwrap_or o no_line).kind) (times n (heads_row o)) 0 ≡ times n (kind_row strict o)
+kind_step strict n None = by (passes strict no_line.kind)
   where
-    by : (b : Bool) → one b + 0 ≡ one (b && true)
+    by : (v : Bool) → ◌≡◌ {A = ℕ} (cond v 0 0) 0
     by true = refl
     by false = refl
-times_kind q y false = by (q == y)
+kind_step strict n (Some l) = by (passes strict l.kind)
   where
-    by : (b : Bool) → 0 ≡ one (b && false)
+    by : (v : Bool) → cond v (times n (l.head ∷ [])) 0 ≡ times n (cond v (l.head ∷ []) [])
     by true = refl
     by false = refl
 
-module _ {lines : List Line} {order places' : List ℕ} {heads uses : RowLists} (h : HasRules lines order places' heads uses) where
-  pub heads_are : (n : ℕ) → map (place_in places') (list_at heads n) ≡ places heads_row (map (line_at lines) order) n
-  heads_are n =
-      ap (map (place_in places')) (h.by_head n)
-      ∙ places_are heads_row n (λ s. n == (line_at lines s).head) (line_at lines) (place_in places') order 0
-      (λ i lt. omega (arith, h.placed i lt)) (λ k d lt. times_single n (line_at lines (get_or order k d)).head)
-
-  -- the rules with a head of which the kind passes
-  pub kinds_are : (strict : Bool) (n : ℕ) → length (filter (λ s. passes strict (line_at lines s).kind) (list_at heads n))
-      ≡ length (places (kind_row strict) (map (line_at lines) order) n)
-  kinds_are strict n =
-      sym (length-map (filter (λ s. passes strict (line_at lines s).kind) (list_at heads n)) (place_in places'))
-      ∙ ap length (ap (λ xs. map (place_in places') (filter (λ s. passes strict (line_at lines s).kind) xs)) (h.by_head n)
-      ∙ ap (map (place_in places')) (filter_both (λ s. passes strict (line_at lines s).kind) (λ s. n == (line_at lines s).head) order)
-      ∙ places_are (kind_row strict) n (λ s. (n == (line_at lines s).head) && passes strict (line_at lines s).kind) (line_at lines) (place_in places') order 0
-      (λ i lt. omega (arith, h.placed i lt))
-      (λ k d lt. times_kind n (line_at lines (get_or order k d)).head (passes strict (line_at lines (get_or order k d)).kind)))
-
-  pub heads_few : (n : ℕ) → length (list_at heads n) ≤ length (map (line_at lines) order)
-  heads_few n =
-      omega (arith, ap length (h.by_head n), length-filter_le (λ s. n == (line_at lines s).head) order, length-map order (line_at lines))
-
-  -- the line at the place of a member
-  line_there : (s : ℕ) → Contains order s → get_or (map (line_at lines) order) (place_in places' s) no_line ≡ line_at lines s
-  line_there s m =
-      let at = member_place order places' s h.placed m in
-      get_or-map (line_at lines) order (place_in places' s) 0 no_line at.0 ∙ ap (line_at lines) at.1
-
-  pub supports_are : (xs : List ℕ) → All (Contains order) xs
-      → length (filter (λ s. passes false (line_at lines s).kind) xs)
-      ≡ length (filter (λ t. can_support (get_or (map (line_at lines) order) t no_line).kind) (map (place_in places') xs))
-  supports_are xs there =
-      sym (ap length (filter_mapped (place_in places') (λ t. can_support (get_or (map (line_at lines) order) t no_line).kind)
-      (λ s. passes false (line_at lines s).kind) xs
-      (All-weaker (Contains order) (λ s. can_support (get_or (map (line_at lines) order) (place_in places' s) no_line).kind ≡ passes false (line_at lines s).kind)
-      (λ s m. ap (λ (l : Line). can_support l.kind) (line_there s m)) xs there))
-      ∙ length-map (filter (λ s. passes false (line_at lines s).kind) xs) (place_in places'))
-
-  pub uses_are : (n : ℕ) → map (place_in places') (list_at uses n) ≡ places uses_row (map (line_at lines) order) n
-  uses_are n =
-      ap (map (place_in places')) (h.by_use n)
-      ∙ places_are uses_row n (λ s. is_in (line_at lines s).body n) (line_at lines) (place_in places') order 0
-      (λ i lt. omega (arith, h.placed i lt)) (λ k d lt. times_once (line_at lines (get_or order k d)).body n)
-
-  -- what stands among the rules has a place
-  pub have_places : (xs : List ℕ) → All (Contains order) xs → All (λ s. s < length places') xs
-  have_places xs there =
-      All-weaker (Contains order) (λ s. s < length places')
-      (λ s m. let less : s < length lines = All-contains (λ t. t < length lines) order s h.within m in omega (arith, less, h.as_long)) xs there
-
-  pub heads_there : (n : ℕ) → All (Contains order) (list_at heads n)
-  heads_there n =
-      subst (λ (xs : List ℕ). All (Contains order) xs) (sym (h.by_head n))
-      (All-filter (λ s. n == (line_at lines s).head) (Contains order) order (All-contains_itself order))
-
-  pub uses_there : (n : ℕ) → All (Contains order) (list_at uses n)
-  uses_there n =
-      subst (λ (xs : List ℕ). All (Contains order) xs) (sym (h.by_use n))
-      (All-filter (λ s. is_in (line_at lines s).body n) (Contains order) order (All-contains_itself order))
+-- the rules with a head of which the kind passes
+pub kinds_are : (strict : Bool) (lines : List (Option Line)) (n : ℕ)
+    → filter (λ s. passes strict (line_at lines s).kind) (places heads_row lines n) ≡ places (kind_row strict) lines n
+kinds_are strict lines n =
+    places_filtered heads_row (kind_row strict) (λ s. passes strict (line_at lines s).kind) n lines lines 0 None None refl
+    (λ i j at lt.
+    ap (λ (k : ℕ). cond (passes strict (line_at lines k).kind) (times n (heads_row (get_or lines i None))) 0) (omega (arith, at))
+    ∙ kind_step strict n (get_or lines i None))

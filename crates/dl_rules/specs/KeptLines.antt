@@ -1,27 +1,47 @@
 -- How the columns of a list of rules hold it.
-use Rattle.std.specs.Prelude.{◌≡◌, ℕ, min, List, [], ◌∷◌, length}
+use Rattle.std.specs.Prelude.{◌≡◌, ℕ, ◌<◌, min, Option, None, Some, List, [], ◌∷◌, length, get_or}
 use Rattle.dl_theory.specs.declared.rule.Kind.{Kind}
+use Rattle.dl_theory.specs.declared.rule.Kind.TheVariants as kinds
+use Rattle.dl_rules.specs.declared.slot.Slot.{Slot}
+use Rattle.dl_rules.specs.declared.slot.Slot.TheVariants.{Strict, Defeasible, Defeater, Gone}
 use Rattle.dl_rules.specs.declared.lines.Lines.TheInside.{Inside}
 use Rattle.dl_rows.specs.Listed.{Listed}
 use Rattle.dl_rules.specs.Lines.{Line}
 
--- the rules with these kinds, heads and bodies
-abbrev pub joined : List Kind → List ℕ → List (List ℕ) → List Line
-joined [] heads bodies = []
-joined (k ∷ kinds) [] bodies = []
-joined (k ∷ kinds) (h ∷ heads) [] = []
-joined (k ∷ kinds) (h ∷ heads) (b ∷ bodies) = record { kind = k; head = h; body = b } ∷ joined kinds heads bodies
+-- the kind of the rule in a slot
+abbrev pub kind_in : Slot → Option Kind
+kind_in Strict = Some kinds.Strict
+kind_in Defeasible = Some kinds.Defeasible
+kind_in Defeater = Some kinds.Defeater
+kind_in Gone = None
 
-abbrev pub lines_of : Inside → Listed Line
+-- the rule of a kind with a head and a body
+abbrev pub line_of : Option Kind → ℕ → List ℕ → Option Line
+line_of None h b = None
+line_of (Some k) h b = Some (record { kind = k; head = h; body = b })
+
+-- the rules in these slots, with these heads and bodies
+abbrev pub joined : List Slot → List ℕ → List (List ℕ) → List (Option Line)
+joined [] heads bodies = []
+joined (s ∷ slots) [] bodies = []
+joined (s ∷ slots) (h ∷ heads) [] = []
+joined (s ∷ slots) (h ∷ heads) (b ∷ bodies) = line_of (kind_in s) h b ∷ joined slots heads bodies
+
+abbrev pub lines_of : Inside → Listed (Option Line)
 lines_of a = record {
-  items = joined a.kinds.items a.heads.items a.bodies.items;
-  spare = min a.kinds.spare (min a.heads.spare a.bodies.spare);
+  items = joined a.slots.items a.heads.items a.bodies.items;
+  spare = min a.slots.spare (min a.heads.spare a.bodies.spare);
 }
 
 -- no column is longer than another
-pub record AreAsLong (ks : List Kind) (hs : List ℕ) (bs : List (List ℕ)) : Type 0 where
-  pub heads : length hs ≡ length ks
-  pub bodies : length bs ≡ length ks
+pub record AreAsLong (ss : List Slot) (hs : List ℕ) (bs : List (List ℕ)) : Type 0 where
+  pub heads : length hs ≡ length ss
+  pub bodies : length bs ≡ length ss
 
-abbrev pub IsKeptLines : Inside → Type 0
-IsKeptLines a = AreAsLong a.kinds.items a.heads.items a.bodies.items
+-- a rule that has gone has left no body
+abbrev pub AreBare : List Slot → List (List ℕ) → Type 0
+AreBare ss bs = (n : ℕ) → n < length ss → get_or ss n Gone ≡ Gone → get_or bs n [] ≡ []
+
+pub record IsKeptLines (a : Inside) : Type 0 where
+  pub long : AreAsLong a.slots.items a.heads.items a.bodies.items
+  pub bare : AreBare a.slots.items a.bodies.items

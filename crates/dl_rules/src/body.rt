@@ -70,6 +70,17 @@ impl BodyNumbers {
         Ok(BodyNumbers { form })
     }
 
+    /// An equal body.
+    pub fn copy(&self, alloc: Global) -> Result<BodyNumbers, Memory>
+        ensures { IfOk result (λ copy. copy ≡ self.now) }
+    {
+        let form = match &self.form {
+            Form::Plain(numbers) => Form::Plain(Row::of(alloc, numbers.as_slice())?),
+            Form::Repeating(lists) => Form::Repeating(repeats_of(alloc, lists)?),
+        };
+        Ok(BodyNumbers { form })
+    }
+
     /// The numbers in the order of the body, with repeats.
     pub fn as_slice(&self) -> &[u32]
         ensures { result.now ≡ self.now }
@@ -90,4 +101,14 @@ impl BodyNumbers {
             Form::Repeating(lists) => lists.once.as_slice(),
         }
     }
+}
+
+/// Equal lists.
+fn repeats_of(alloc: Global, lists: &Repeats) -> Result<Box<Repeats>, Memory>
+    ensures body { IfOk result (λ copy. copy.value.body.items ≡ lists.now.body.items) }
+    ensures once { IfOk result (λ copy. copy.value.once.items ≡ lists.now.once.items) }
+{
+    let body = Row::of(alloc, lists.body.as_slice())?;
+    let once = Row::of(alloc, lists.once.as_slice())?;
+    Ok(Box::new(alloc, Repeats { body, once })?)
 }

@@ -1,6 +1,6 @@
 //! One more rule, in room that is there.
 
-ghost use Rattle.std.specs.Prelude.{◌≡◌, ℕ, ◌+◌, ◌<◌, ◌≤◌, ◌^◌, max, [], ◌∷◌, ◌++◌, All, length, OnOk, if◌then◌else◌, set};
+ghost use Rattle.std.specs.Prelude.{◌≡◌, ℕ, ◌+◌, ◌<◌, ◌≤◌, ◌^◌, max, [], ◌∷◌, ◌++◌, All, Some, length, OnOk, if◌then◌else◌, set};
 ghost use Rattle.dl_base.specs.Paths.{IsDistinct};
 ghost use Rattle.dl_rows.specs.Tables.{list_at, spare_at, KeepsLists};
 ghost use Rattle.dl_rows.specs.Counting.{is_in};
@@ -8,7 +8,7 @@ ghost use Rattle.dl_rows.specs.Counting.{is_in};
 use crate::entry::Entry;
 use crate::lines::Lines;
 use dl_base::Memory;
-use dl_rows::{Lists, RowTable, Table};
+use dl_rows::{Lists, RowTable};
 
 /// The number goes last into the lists of a body's literals, of which none stands twice.
 pub(crate) fn put_uses(uses: &mut RowTable, body: &[u32], rule: u32)
@@ -64,8 +64,6 @@ pub(crate) fn reserve_at(rows: &mut RowTable, number: u32) -> Result<(), Memory>
 /// Room for one more rule, and no other change.
 pub(crate) fn reserve_rule(
     lines: &mut Lines,
-    order: &mut Table<u32>,
-    places: &mut Table<u32>,
     heads: &mut RowTable,
     uses: &mut RowTable,
     entry: &Entry,
@@ -73,15 +71,11 @@ pub(crate) fn reserve_rule(
     requires head { entry.now.head < length heads.old.lists }
     requires body { All (λ b. b < length uses.old.lists) entry.now.body }
     ensures lines { lines.new.items ≡ lines.old.items }
-    ensures order { order.new.items ≡ order.old.items }
-    ensures places { places.new.items ≡ places.old.items }
     ensures heads { KeepsLists heads.old heads.new }
     ensures uses { KeepsLists uses.old uses.new }
     ensures heads_same { length heads.new.lists ≡ length heads.old.lists }
     ensures uses_same { length uses.new.lists ≡ length uses.old.lists }
     ensures lines_room { OnOk result (0 < lines.new.spare) }
-    ensures order_room { OnOk result (0 < order.new.spare) }
-    ensures places_room { OnOk result (0 < places.new.spare) }
     ensures few { OnOk result (length lines.new.items < 2 ^ 32) }
     ensures heads_room { OnOk result (0 < spare_at heads.new entry.now.head) }
     ensures uses_room { OnOk result (All (λ b. 0 < spare_at uses.new b) entry.now.body) }
@@ -90,44 +84,27 @@ pub(crate) fn reserve_rule(
         return Err(Memory);
     }
     lines.reserve()?;
-    order.reserve()?;
-    places.reserve()?;
     heads.reserve(entry.head as usize)?;
     reserve_uses(uses, entry.body.as_slice())?;
     Ok(())
 }
 
 /// The rule goes last, and into the list of its head and into those of its body's literals.
-pub(crate) fn put_rule(
-    lines: &mut Lines,
-    order: &mut Table<u32>,
-    places: &mut Table<u32>,
-    heads: &mut RowTable,
-    uses: &mut RowTable,
-    entry: Entry,
-)
+pub(crate) fn put_rule(lines: &mut Lines, heads: &mut RowTable, uses: &mut RowTable, entry: Entry)
     requires lines_room { 0 < lines.old.spare }
-    requires order_room { 0 < order.old.spare }
-    requires places_room { 0 < places.old.spare }
     requires few { length lines.old.items < 2 ^ 32 }
-    requires fewer { length order.old.items ≤ length lines.old.items }
     requires heads_room { 0 < spare_at heads.old entry.head }
     requires uses_room { All (λ b. 0 < spare_at uses.old b) entry.body }
     requires within { All (λ b. b < length uses.old.lists) entry.body }
-    ensures lines { lines.new.items ≡ lines.old.items ++ entry ∷ [] }
-    ensures order { order.new.items ≡ order.old.items ++ length lines.old.items ∷ [] }
-    ensures places { places.new.items ≡ places.old.items ++ length order.old.items ∷ [] }
+    ensures lines { lines.new.items ≡ lines.old.items ++ Some entry ∷ [] }
     ensures heads { heads.new.lists ≡ set heads.old.lists entry.head (list_at heads.old entry.head ++ length lines.old.items ∷ []) }
     ensures uses { (n : ℕ) → list_at uses.new n ≡ list_at uses.old n ++ (if is_in entry.body n then length lines.old.items ∷ [] else []) }
     ensures uses_same { length uses.new.lists ≡ length uses.old.lists }
 {
     let rule = lines.len() as u32;
-    let place = order.len() as u32;
     heads.push(entry.head as usize, rule);
     put_uses(uses, entry.body.each_once(), rule);
     lines.push(entry);
-    order.push(rule);
-    places.push(place);
 }
 
 /// A number at the end of a list of each table, at the other. `Memory` where there is no room or no list for it.

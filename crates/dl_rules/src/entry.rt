@@ -20,7 +20,7 @@ impl Model for Entry {
     ghost view = { λ e. record { kind = e.kind; head = e.head; body = e.body } };
 }
 
-/// Two rules by inner number, one above the other.
+/// Two rules by number, one above the other.
 #[derive(Clone, Copy, Debug, PartialEq, Eq)]
 pub(crate) struct Between {
     pub upper: u32,

@@ -1,8 +1,8 @@
 //! How many rules of a list can conclude so much.
 
-ghost use Rattle.std.specs.Prelude.{◌≡◌, ◌<◌, ◌≤◌, All, length, filter};
+ghost use Rattle.std.specs.Prelude.{◌≡◌, ◌≤◌, All, length, filter};
 ghost use Rattle.dl_theory.specs.Lists.{can_support};
-ghost use Rattle.dl_rules.specs.Lines.{passes, line_at};
+ghost use Rattle.dl_rules.specs.Lines.{passes, line_at, IsThere};
 
 use crate::lines::Lines;
 use dl_theory::Kind;
@@ -31,7 +31,7 @@ pub(crate) fn passes(kind: Kind, strict: bool) -> bool
 
 /// How many of the rules are strict, or else can support their heads.
 pub(crate) fn count(lines: &Lines, rules: &[u32], strict: bool) -> usize
-    requires { All (λ s. s < length lines.now.items) rules.now }
+    requires { All (IsThere lines.now.items) rules.now }
     ensures value { result ≡ length (filter (λ s. passes strict (line_at lines.now.items s).kind) rules.now) }
     ensures few { result ≤ length rules.now }
 {

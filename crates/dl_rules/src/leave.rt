@@ -1,14 +1,12 @@
 //! One rule less.
 
-ghost use Rattle.std.specs.Prelude.{◌≡◌, ℕ, ◌<◌, ◌≤◌, ◌^◌, ◌==◌, [], All, length, set, get_or, if◌then◌else◌};
-ghost use Rattle.dl_base.specs.Paths.{IsDistinct};
+ghost use Rattle.std.specs.Prelude.{◌≡◌, ℕ, ◌==◌, [], None, length, set, if◌then◌else◌};
 ghost use Rattle.dl_rows.specs.Tables.{list_at, drop_item};
 ghost use Rattle.dl_rows.specs.Counting.{is_in};
-ghost use Rattle.dl_rules.specs.Lines.{no_line, line_at};
-ghost use Rattle.dl_rules.specs.Indexes.{place_in};
+ghost use Rattle.dl_rules.specs.Lines.{line_at, IsThere};
 
 use crate::lines::Lines;
-use dl_rows::{Lists, RowTable, Table};
+use dl_rows::{Lists, RowTable};
 
 /// A number goes out of the lists at some numbers.
 pub(crate) fn take_out(rows: &mut RowTable, numbers: &[u32], item: u32)
@@ -22,17 +20,17 @@ pub(crate) fn take_out(rows: &mut RowTable, numbers: &[u32], item: u32)
 
 /// A rule goes, and out of the lists of its head and of its body's literals.
 pub(crate) fn take_rule(lines: &mut Lines, heads: &mut RowTable, uses: &mut RowTable, rule: u32)
-    requires { rule < length lines.old.items }
-    ensures lines { lines.new.items ≡ set lines.old.items rule no_line }
+    requires { IsThere lines.old.items rule }
+    ensures lines { lines.new.items ≡ set lines.old.items rule None }
     ensures heads { (n : ℕ) → list_at heads.new n ≡ (if n == (line_at lines.old.items rule).head then drop_item rule (list_at heads.old n) else list_at heads.old n) }
     ensures uses { (n : ℕ) → list_at uses.new n ≡ (if is_in (line_at lines.old.items rule).body n then drop_item rule (list_at uses.old n) else list_at uses.old n) }
     ensures heads_same { length heads.new.lists ≡ length heads.old.lists }
     ensures uses_same { length uses.new.lists ≡ length uses.old.lists }
 {
-    let inner = rule as usize;
-    heads.remove(lines.head(inner) as usize, rule);
-    take_out(uses, lines.body(inner), rule);
-    lines.clear(inner);
+    let number = rule as usize;
+    heads.remove(lines.head(number) as usize, rule);
+    take_out(uses, lines.body(number), rule);
+    lines.clear(number);
 }
 
 /// A rule goes out of what stands below and above the others, and nothing stands below or above it.
@@ -46,18 +44,4 @@ pub(crate) fn take_links(lowers: &mut RowTable, uppers: &mut RowTable, rule: u32
     take_out(lowers, uppers.row(rule as usize), rule);
     lowers.clear(rule as usize);
     uppers.clear(rule as usize);
-}
-
-/// Each rule from a place on gets its place.
-pub(crate) fn place_from(places: &mut Table<u32>, order: &Table<u32>, from: usize)
-    requires distinct { IsDistinct order.now.items }
-    requires within { All (λ s. s < length places.old.items) order.now.items }
-    requires few { length order.now.items < 2 ^ 32 }
-    requires before { (k : ℕ) → k < from → k < length order.now.items → place_in places.old.items (get_or order.now.items k 0) ≡ k }
-    ensures placed { (k : ℕ) → k < length order.now.items → place_in places.new.items (get_or order.now.items k 0) ≡ k }
-    ensures same { length places.new.items ≡ length places.old.items }
-{
-    for at in from..order.len() {
-        places.write(*order.at(at) as usize, at as u32);
-    }
 }

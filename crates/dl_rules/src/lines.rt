@@ -1,11 +1,12 @@
 //! Rules by number.
 
-ghost use Rattle.std.specs.Prelude.{◌≡◌, ◌<◌, ◌^◌, [], ◌∷◌, ◌++◌, OnOk, length, set};
+ghost use Rattle.std.specs.Prelude.{◌≡◌, ◌<◌, ◌^◌, [], ◌∷◌, ◌++◌, OnOk, IfOk, Some, None, option_map, length, get_or, set};
 ghost use Rattle.dl_rows.specs.Counting.{each_once};
-ghost use Rattle.dl_rules.specs.Lines.{no_line, line_at};
+ghost use Rattle.dl_rules.specs.Lines.{line_at, IsThere};
 
 use crate::body::BodyNumbers;
 use crate::entry::Entry;
+use crate::slot::Slot;
 use dl_base::Memory;
 use dl_names::other;
 use dl_rows::Table;
@@ -14,9 +15,10 @@ use std::alloc::Global;
 use std::marker::Model;
 use std::mem::size_of;
 
-/// Rules by number. What is read most, kinds and heads, stands apart from the bodies. What stands behind it can be exchanged.
+/// Rules by number. A number whose rule has gone stays empty. What is read most, kinds and heads, stands apart from the bodies. What
+/// stands behind it can be exchanged.
 pub struct Lines {
-    kinds: Table<Kind>,
+    slots: Table<Slot>,
     heads: Table<u32>,
     bodies: Table<BodyNumbers>,
 }
@@ -24,21 +26,22 @@ pub struct Lines {
 impl Drop for Lines {
     fn drop(self) {
         let Lines {
-            kinds: _,
+            slots: _,
             heads: _,
             bodies: _,
         } = self;
     }
 }
 
-const _: () = prove!(size_of::<Kind>() == 1);
+const _: () = prove!(size_of::<Slot>() == 1);
 
 impl Model for Lines {
+    ghost use Rattle.std.specs.Prelude.{Option};
     ghost use Rattle.dl_rows.specs.Listed.{Listed};
     ghost use Rattle.dl_rules.specs.Lines.{Line};
     ghost use Rattle.dl_rules.specs.KeptLines.{lines_of, IsKeptLines};
 
-    ghost Value = { Listed Line };
+    ghost Value = { Listed (Option Line) };
 
     ghost view = { lines_of };
 
@@ -51,7 +54,7 @@ impl Lines {
         ensures { result.items ≡ [] }
     {
         Lines {
-            kinds: Table::make(alloc),
+            slots: Table::make(alloc),
             heads: Table::make(alloc),
             bodies: Table::make(alloc),
         }
@@ -62,7 +65,7 @@ impl Lines {
         ensures items { self.new.items ≡ self.old.items }
         ensures room { OnOk result (0 < self.new.spare) }
     {
-        self.kinds.reserve()?;
+        self.slots.reserve()?;
         self.heads.reserve()?;
         self.bodies.reserve()?;
         Ok(())
@@ -71,44 +74,86 @@ impl Lines {
     /// A rule at the end, in room that is there.
     pub fn push(&mut self, entry: Entry)
         requires { 0 < self.old.spare }
-        ensures { self.new.items ≡ self.old.items ++ entry ∷ [] }
+        ensures { self.new.items ≡ self.old.items ++ Some entry ∷ [] }
     {
-        self.kinds.push(entry.kind);
+        self.slots.push(Slot::of(entry.kind));
         self.heads.push(entry.head);
         self.bodies.push(entry.body);
     }
 
     /// A rule goes, and leaves its number empty.
+    // its head stays, since nobody asks for it any more
     pub fn clear(&mut self, rule: usize)
         requires { rule < length self.old.items }
-        ensures { self.new.items ≡ set self.old.items rule no_line }
+        ensures { self.new.items ≡ set self.old.items rule None }
     {
-        self.kinds.write(rule, Kind::Defeater);
-        self.heads.write(rule, 0);
+        self.slots.write(rule, Slot::Gone);
         self.bodies.replace(rule, BodyNumbers::none());
     }
 
-    /// How many rules there are, with those that are empty.
+    /// The same rules under the same numbers. `Memory` where there is none for them.
+    pub fn copy(&self) -> Result<Lines, Memory>
+        ensures { IfOk result (λ copy. copy.items ≡ self.now.items) }
+    {
+        let slots = self.slots.copy()?;
+        let heads = self.heads.copy()?;
+        let bodies = copied_bodies(&self.bodies)?;
+        Ok(Lines {
+            slots,
+            heads,
+            bodies,
+        })
+    }
+
+    /// How many numbers there are, with those that are empty.
     pub fn len(&self) -> usize
         ensures { result ≡ length self.now.items }
     {
-        self.kinds.len()
+        self.slots.len()
     }
 
-    /// The kind of a rule.
+    /// The kind of the rule with a number; `None` exactly where it has gone, and past the end.
+    #[inline(always)]
+    pub fn find(&self, rule: usize) -> Option<Kind>
+        ensures { result ≡ option_map (λ l. l.kind) (get_or self.now.items rule None) }
+    {
+        if rule >= self.slots.len() {
+            return None;
+        }
+        self.slots.at(rule).kind()
+    }
+
+    /// The kind of a rule that is there.
+    #[inline(always)]
     pub fn kind(&self, rule: usize) -> Kind
-        requires { rule < length self.now.items }
+        requires { IsThere self.now.items rule }
         ensures { result ≡ (line_at self.now.items rule).kind }
     {
-        *self.kinds.at(rule)
+        match self.find(rule) {
+            None => unreachable!(),
+            Some(kind) => kind,
+        }
     }
 
     /// The number of its head.
     pub fn head(&self, rule: usize) -> u32
-        requires { rule < length self.now.items }
+        requires { IsThere self.now.items rule }
         ensures { result ≡ (line_at self.now.items rule).head }
     {
         *self.heads.at(rule)
+    }
+
+    /// An equal rule by itself.
+    pub fn entry(&self, rule: usize) -> Result<Entry, Memory>
+        requires { IsThere self.now.items rule }
+        ensures { IfOk result (λ entry. entry ≡ line_at self.now.items rule) }
+    {
+        let body = self.bodies.at(rule).copy(self.alloc())?;
+        Ok(Entry {
+            kind: self.kind(rule),
+            head: self.head(rule),
+            body,
+        })
     }
 
     /// Whether the head of one rule is attacked by that of another.
@@ -117,10 +162,10 @@ impl Lines {
         requires upper { upper < length self.now.items }
         requires lower { lower < length self.now.items }
     {
-        self.head(lower) as usize == other(self.head(upper) as usize)
+        *self.heads.at(lower) as usize == other(*self.heads.at(upper) as usize)
     }
 
-    /// The numbers of the body in its order, with repeats.
+    /// The numbers of the body in its order, with repeats. Where the rule has gone there are none.
     pub fn body(&self, rule: usize) -> &[u32]
         requires { rule < length self.now.items }
         ensures { result.now ≡ (line_at self.now.items rule).body }
@@ -136,4 +181,23 @@ impl Lines {
     {
         self.bodies.at(rule).each_once()
     }
+
+    /// Where its memory comes from.
+    pub(crate) fn alloc(&self) -> Global {
+        self.heads.alloc()
+    }
+}
+
+/// The same bodies.
+fn copied_bodies(bodies: &Table<BodyNumbers>) -> Result<Table<BodyNumbers>, Memory>
+    ensures { IfOk result (λ copy. copy.items ≡ bodies.now.items) }
+{
+    let alloc = bodies.alloc();
+    let mut copy = Table::make(alloc);
+    for at in 0..bodies.len() {
+        let body = bodies.at(at).copy(alloc)?;
+        copy.reserve()?;
+        copy.push(body);
+    }
+    Ok(copy)
 }

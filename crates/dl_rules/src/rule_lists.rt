@@ -1,25 +1,23 @@
 //! The lists that lead to rules which are all there.
 
-ghost use Rattle.std.specs.Prelude.{◌≡◌, ◌<◌, ◌^◌, ℕ, All, IfOk, OnOk, [], ◌∷◌, ◌++◌, length, map, set, if◌then◌else◌};
+ghost use Rattle.std.specs.Prelude.{◌≡◌, ◌<◌, ◌^◌, ℕ, All, IsSome, IfOk, OnOk, [], ◌∷◌, ◌++◌, length, set, if◌then◌else◌};
 ghost use Rattle.dl_base.specs.Paths.{IsDistinct};
 ghost use Rattle.dl_rows.specs.Tables.{list_at};
-ghost use Rattle.dl_rules.specs.Lines.{IsWithin, line_at};
+ghost use Rattle.dl_rules.specs.Lines.{IsThere, IsThereWithin, line_at};
 ghost use Rattle.dl_rows.specs.Counting.{is_in};
 ghost use Rattle.dl_rules.specs.Indexes.{HasRules};
 
 use crate::lines::Lines;
 use dl_base::Memory;
-use dl_rows::{Lists, RowTable, Table};
+use dl_rows::{Lists, RowTable};
 use std::alloc::Global;
 
 /// So many rules, or pairs of rules, are looked at before they are entered.
 pub const BLOCK: usize = 32;
 
-/// The order and the places of rules, and those with each head and with each literal in the body.
+/// The rules with each head, and those with each literal in the body.
 #[derive(Drop)]
 pub(crate) struct RuleLists {
-    pub order: Table<u32>,
-    pub places: Table<u32>,
     pub heads: RowTable,
     pub uses: RowTable,
 }
@@ -27,10 +25,9 @@ pub(crate) struct RuleLists {
 impl RuleLists {
     /// The lists of these rules, whose literals have numbers below a bound. Each takes no more room than it needs.
     pub fn of(alloc: Global, lines: &Lines, names: usize) -> Result<RuleLists, Memory>
-        requires within { All (IsWithin names) lines.now.items }
+        requires within { All (IsThereWithin names) lines.now.items }
         requires few { length lines.now.items < 2 ^ 32 }
-        ensures rules { IfOk result (λ r. HasRules lines.now.items r.order.items r.places.items r.heads r.uses) }
-        ensures all { IfOk result (λ r. map (line_at lines.now.items) r.order.items ≡ lines.now.items) }
+        ensures { IfOk result (λ r. HasRules lines.now.items r.heads r.uses) }
     {
         let mut lists = RuleLists::with_room(alloc, lines, count_lists(lines, names))?;
         for rule in 0..lines.len() {
@@ -45,7 +42,9 @@ impl RuleLists {
     /// Whether the lists of the next rules have room. Rules that are entered one by one would wait for memory one by one: where a number
     /// goes is known only when its list has come, and what is read behind such a write waits for it. To look at many lists before
     /// anything is written makes them come together.
-    fn have_room(&self, lines: &Lines, from: usize) -> bool {
+    fn have_room(&self, lines: &Lines, from: usize) -> bool
+        requires { All IsSome lines.now.items }
+    {
         let end = usize::min(from.saturating_add(BLOCK), lines.len());
         for rule in from..end {
             if !self.has_room(lines, rule) {
@@ -58,7 +57,7 @@ impl RuleLists {
     /// Whether each list that a rule goes into has room.
     #[inline(always)]
     fn has_room(&self, lines: &Lines, rule: usize) -> bool
-        requires { rule < length lines.now.items }
+        requires { IsThere lines.now.items rule }
     {
         self.heads.has_room(lines.head(rule) as usize)
             && uses_have_room(&self.uses, lines.each_once(rule))
@@ -66,9 +65,7 @@ impl RuleLists {
 
     /// Empty lists, with room for these rules.
     fn with_room(alloc: Global, lines: &Lines, names: usize) -> Result<RuleLists, Memory>
-        requires { All (IsWithin names) lines.now.items }
-        ensures order { IfOk result (λ r. r.order.items ≡ []) }
-        ensures places { IfOk result (λ r. r.places.items ≡ []) }
+        requires { All (IsThereWithin names) lines.now.items }
         ensures heads { IfOk result (λ r. (n : ℕ) → list_at r.heads n ≡ []) }
         ensures uses { IfOk result (λ r. (n : ℕ) → list_at r.uses n ≡ []) }
         ensures heads_wide { IfOk result (λ r. length r.heads.lists ≡ names) }
@@ -77,8 +74,6 @@ impl RuleLists {
         let heads = count_heads(alloc, lines, names)?;
         let uses = count_uses(alloc, lines, names)?;
         Ok(RuleLists {
-            order: Table::make(alloc),
-            places: Table::make(alloc),
             heads: RowTable::with_room(alloc, heads.as_slice())?,
             uses: RowTable::with_room(alloc, uses.as_slice())?,
         })
@@ -86,31 +81,25 @@ impl RuleLists {
 
     /// The rule with a number goes last into all lists that are its own.
     fn enter(&mut self, lines: &Lines, rule: usize) -> Result<(), Memory>
-        requires rule { rule < length lines.now.items }
+        requires rule { IsThere lines.now.items rule }
         requires few { length lines.now.items < 2 ^ 32 }
         requires head { (line_at lines.now.items rule).head < length self.old.heads.lists }
         requires body { All (λ b. b < length self.old.uses.lists) (line_at lines.now.items rule).body }
-        ensures order { OnOk result (self.new.order.items ≡ self.old.order.items ++ rule ∷ []) }
-        ensures places { OnOk result (self.new.places.items ≡ self.old.places.items ++ rule ∷ []) }
         ensures heads { OnOk result (self.new.heads.lists ≡ set self.old.heads.lists (line_at lines.now.items rule).head (list_at self.old.heads (line_at lines.now.items rule).head ++ rule ∷ [])) }
         ensures uses { OnOk result ((n : ℕ) → list_at self.new.uses n ≡ list_at self.old.uses n ++ (if is_in (line_at lines.now.items rule).body n then rule ∷ [] else [])) }
         ensures uses_wide { OnOk result (length self.new.uses.lists ≡ length self.old.uses.lists) }
     {
         let number = rule as u32;
-        self.order.reserve()?;
-        self.places.reserve()?;
         self.heads.append(lines.head(rule) as usize, number)?;
         append_uses(&mut self.uses, lines.each_once(rule), number)?;
-        self.order.push(number);
-        self.places.push(number);
         Ok(())
     }
 }
 
 /// How many lists rules take whose literals have numbers below a bound: none where there is no rule.
 fn count_lists(lines: &Lines, names: usize) -> usize
-    requires { All (IsWithin names) lines.now.items }
-    ensures { All (IsWithin result) lines.now.items }
+    requires { All (IsThereWithin names) lines.now.items }
+    ensures { All (IsThereWithin result) lines.now.items }
 {
     if lines.len() == 0 { 0 } else { names }
 }
@@ -142,7 +131,7 @@ fn append_uses(uses: &mut RowTable, body: &[u32], rule: u32) -> Result<(), Memor
 
 /// How many rules have each number as their head.
 fn count_heads(alloc: Global, lines: &Lines, names: usize) -> Result<Vec<u32>, Memory>
-    requires { All (IsWithin names) lines.now.items }
+    requires { All (IsThereWithin names) lines.now.items }
     ensures { IfOk result (λ counts. length counts.items ≡ names) }
 {
     let mut counts = Vec::new(alloc);
@@ -155,7 +144,7 @@ fn count_heads(alloc: Global, lines: &Lines, names: usize) -> Result<Vec<u32>, M
 
 /// How many rules have each number in the body.
 fn count_uses(alloc: Global, lines: &Lines, names: usize) -> Result<Vec<u32>, Memory>
-    requires { All (IsWithin names) lines.now.items }
+    requires { All (IsThereWithin names) lines.now.items }
     ensures { IfOk result (λ counts. length counts.items ≡ names) }
 {
     let mut counts = Vec::new(alloc);

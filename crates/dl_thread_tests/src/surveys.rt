@@ -6,9 +6,10 @@ use dl_edition::Held;
 use dl_gen::{Counts, survey};
 use dl_lit::{Literal, Name};
 use dl_marks::Steps;
+use dl_net::Net;
 use dl_read::read_file;
 use dl_theory::{Edit, Theory};
-use dl_update::Draft;
+use dl_update::{Draft, Families};
 use std::alloc::Global;
 use std::marker::Brand;
 use std::process::Abort;
@@ -58,7 +59,8 @@ fn edition_of<L: Ledger>(rt: &impl Abort, alloc: Global, theory: &Theory, blank:
     ensures { result.theory ≡ theory.now }
 {
     let mut steps = Steps::<L>::make(blank);
-    let mut draft = Draft::saturate(alloc, theory, &mut steps).expect(rt, "a draft");
+    let net = Net::of(alloc, theory).expect(rt, "a net");
+    let mut draft = Draft::saturate(alloc, net, Families::All, &mut steps).expect(rt, "a draft");
     draft.freeze().expect(rt, "room");
     let (net, marks) = draft.share().expect(rt, "room");
     Held::make(alloc, 0, net, marks).expect(rt, "an edition")

@@ -9,9 +9,9 @@ use Rattle.dl_theory.specs.declared.edit.Edit.{Edit}
 use Rattle.dl_theory.specs.Lists.{TheoryLists}
 use Rattle.dl_theory.specs.Cones.{Cone}
 use Rattle.dl_net.specs.Edited.{edit_literals}
-use Rattle.dl_net.specs.Named.{Grows}
-use Rattle.dl_net.specs.Numbers.{NetLists, IsNumbered, literal_at, number}
-use Rattle.dl_net.specs.Region.{Numbers, IsRegion}
+use Rattle.dl_graph.specs.Named.{Grows}
+use Rattle.dl_graph.specs.Numbers.{NetLists, IsNumbered, literal_at, number}
+use Rattle.dl_graph.specs.Region.{Numbers, IsRegion}
 use Rattle.dl_base.specs.Paths.{IsDistinct}
 use Rattle.dl_cone.specs.Walked.{IsConeOf}
 use Rattle.dl_update.specs.Drafts.{IsNew}

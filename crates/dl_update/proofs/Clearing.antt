@@ -16,8 +16,8 @@ use Rattle.dl_theory.specs.Cones.{Cone}
 use Rattle.dl_theory.specs.Derivations.{Follows}
 use Rattle.dl_theory.specs.Marks.{IsRightAt, AreRight}
 use Rattle.dl_marks.specs.Marks.{Marking, places, marked, is_owned}
-use Rattle.dl_net.specs.Numbers.{NetLists, no_literal}
-use Rattle.dl_net.specs.Region.{Numbers}
+use Rattle.dl_graph.specs.Numbers.{NetLists, no_literal}
+use Rattle.dl_graph.specs.Region.{Numbers}
 use Rattle.dl_fill.specs.Before.{tag_of}
 use Rattle.dl_fill.specs.Filled.{IsReady, stands}
 use Rattle.dl_cone.specs.Walked.{IsConeOf}

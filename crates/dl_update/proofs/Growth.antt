@@ -1,19 +1,21 @@
 -- Right marks where places come at the end, and where literals that the theory does not mention get numbers.
-use Rattle.std.proofs.Common.{◌≡◌, ℕ, ◌<◌, ◌≤◌, ◌+◌, ◌∷◌, [], List, Bool, true, false, not, Option, Some, length, get_or, inl, inr, sym, subst, ap, arith, ◌∙◌, refl}
+use Rattle.std.proofs.Common.{◌≡◌, ℕ, ◌<◌, ◌≤◌, ◌+◌, ◌∷◌, [], List, Bool, true, false, not, Option, Some, None, length, get_or, inl, inr, sym, subst, ap, arith, ◌∙◌, refl}
 use Rattle.std.specs.Prelude.{◌↔◌, Contains, IsTrue, MatchOption, slice_get}
 use Rattle.std.specs.Str.{bytes_eq}
 use Rattle.std.proofs.lemmas.Bool.{cases_lt}
+use Rattle.std.proofs.Math.ListN.{length-map}
 use Rattle.std.proofs.lemmas.List.{get_or_default, get_or_append_left, length-append}
 use Rattle.std.proofs.lemmas.Option.{slice_get_past, slice_get-get_or}
 use Rattle.dl_base.specs.Paths.{IsDistinct}
-use Rattle.dl_base.proofs.Filters.{length-filter_le}
 use Rattle.dl_lit.specs.declared.literal.Literal.{Literal}
 use Rattle.dl_lit.specs.declared.literal.Tag.{Tag}
 use Rattle.dl_lit.specs.declared.literal.Family.{Family}
 use Rattle.dl_lit.specs.Literal.{tagged}
 use Rattle.dl_theory.specs.declared.edit.Edit.{Edit}
 use Rattle.dl_theory.specs.declared.edit.Edit.TheVariants.{AddRule, DropRule, AddFact, DropFact, AddPair, DropPair}
-use Rattle.dl_theory.specs.Edits.{after_edit}
+use Rattle.dl_theory.specs.declared.rule.Rule.{Rule}
+use Rattle.dl_rows.specs.There.{kept_if}
+use Rattle.dl_net.specs.Kept.{rules_after}
 use Rattle.dl_theory.specs.Lists.{TheoryLists}
 use Rattle.dl_theory.specs.Listings.{Mentions}
 use Rattle.dl_theory.specs.Derivations.{Follows}
@@ -22,8 +24,8 @@ use Rattle.dl_theory.proofs.Steps.{is_coherent}
 use Rattle.dl_theory.proofs.Unmentioned.{refuted}
 use Rattle.dl_marks.specs.Marks.{Marking, places, marked}
 use Rattle.dl_net.specs.Edited.{edit_literals}
-use Rattle.dl_net.specs.Named.{IsNear, Grows}
-use Rattle.dl_net.specs.Numbers.{NetLists, IsNumbered, no_literal, number}
+use Rattle.dl_graph.specs.Named.{IsNear, Grows}
+use Rattle.dl_graph.specs.Numbers.{NetLists, IsNumbered, no_literal, number}
 use Rattle.dl_fill.specs.Before.{tag_of}
 use Rattle.dl_fill.specs.Filled.{stands}
 use Rattle.dl_update.specs.declared.families.Families.{Families}
@@ -43,14 +45,21 @@ names_distinct N numbered i j d before within same =
 pub longer : (known names : List Literal) (e : Edit) → Grows (IsNear (edit_literals e)) known names → length known ≤ length names
 longer known names e grows = omega (arith, ap (λ (ls : List Literal). length ls) grows.is, length-append known grows.more)
 
--- an edit adds one rule at most
-pub more_rules : (T : TheoryLists) (e : Edit) → length (after_edit T e).rules ≤ length T.rules + 1
-more_rules T (AddRule r) = omega (arith, length-append T.rules (r ∷ []))
-more_rules T (DropRule label) = omega (arith, length-filter_le (λ r. not (bytes_eq r.label label)) T.rules)
-more_rules T (AddFact q) = omega arith
-more_rules T (DropFact q) = omega arith
-more_rules T (AddPair p) = omega arith
-more_rules T (DropPair p) = omega arith
+-- an edit adds one number of a rule at most
+pub more_rules : (rs : List (Option Rule)) (e : Edit) → length (rules_after rs e) ≤ length rs + 1
+more_rules rs (AddRule r) = omega (arith, length-append rs (Some r ∷ []))
+more_rules rs (DropRule label) = omega (arith, length-map rs (kept_if (λ r. not (bytes_eq r.label label))))
+more_rules rs (AddFact q) = omega arith
+more_rules rs (DropFact q) = omega arith
+more_rules rs (AddPair p) = omega arith
+more_rules rs (DropPair p) = omega arith
+
+-- what is right in all families is right in those that are kept, where these are all, and the other way round
+pub to_all : (fs : Families) (T : TheoryLists) (names : List Literal) (m : Marking) → fs ≡ All → AreRightIn fs T names m → AreRight T names (places m) (stands m)
+to_all fs T names m e h = subst (λ (gs : Families). AreRightIn gs T names m) e h
+
+pub from_all : (fs : Families) (T : TheoryLists) (names : List Literal) (m : Marking) → fs ≡ All → AreRight T names (places m) (stands m) → AreRightIn fs T names m
+from_all fs T names m e h = subst (λ (gs : Families). AreRightIn gs T names m) (sym e) h
 
 -- exactly the minus tags stand
 minus_only : (plus : Bool) → IsTrue (not plus) ↔ (plus ≡ false)
@@ -151,10 +160,13 @@ right_moved fs fs' T T' names names' old new families theory same_names len same
     (subst (λ (U : TheoryLists). AreRightIn fs U names' new) (sym theory)
     (subst (λ (ls : List Literal). AreRightIn fs T ls new) (sym same_names) (right_same T fs names old new right len same)))
 
--- marks that are right before an edit are so for the names of a net that has prepared it
-pub right_prepared : (T : TheoryLists) (N : NetLists) (known : List Literal) (e : Edit) (old new : Marking) → IsNumbered N
-    → Grows (IsNear (edit_literals e)) known N.names → N.theory ≡ T → places new ≡ places old → ((t : Tag) (n : ℕ) → marked new t n ≡ marked old t n)
+-- marks that are right before an edit are so for the names of a net that has prepared it, which a graph reads
+pub right_prepared : (T : TheoryLists) (N G : NetLists) (known : List Literal) (e : Edit) (old new : Marking)
+    → G ≡ record N { pending = None; frozen = false } → IsNumbered G → Grows (IsNear (edit_literals e)) known N.names → N.theory ≡ T
+    → places new ≡ places old → ((t : Tag) (n : ℕ) → marked new t n ≡ marked old t n)
     → ((names : List Literal) → GrowsBy (edit_literals e) known names → AreRight T names (places old) (stands old))
     → AreRight N.theory N.names (places new) (stands new)
-right_prepared T N known e old new numbered grows theory len same ready =
-    right_moved All All T N.theory N.names N.names old new refl theory refl len same (ready N.names (names_distinct N numbered, grows))
+right_prepared T N G known e old new is numbered grows theory len same ready =
+    let read : NetLists = record N { pending = None; frozen = false } in
+    right_moved All All T N.theory N.names N.names old new refl theory refl len same
+    (ready N.names (names_distinct read (subst IsNumbered is numbered), grows))

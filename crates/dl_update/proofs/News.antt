@@ -10,8 +10,8 @@ use Rattle.dl_lit.specs.declared.literal.Literal.{Literal}
 use Rattle.dl_lit.specs.Literal.{complement}
 use Rattle.dl_lit.specs.Names.{with_both}
 use Rattle.dl_theory.proofs.Deciding.{literal_in}
-use Rattle.dl_net.specs.Named.{IsNear, IsPaired}
-use Rattle.dl_net.proofs.NameLemmas.{complement_twice, paired_push, both_old, both_new}
+use Rattle.dl_graph.specs.Named.{IsNear, IsPaired}
+use Rattle.dl_names.proofs.NameLemmas.{complement_twice, paired_push, both_old, both_new}
 use Rattle.dl_update.specs.Drafts.{IsNew, IsEnough}
 
 -- names in pairs stay so with one more literal and its complement

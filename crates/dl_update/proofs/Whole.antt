@@ -7,8 +7,8 @@ use Rattle.std.proofs.lemmas.List.Elements.{All-weaker, Contains-append_left, Co
 use Rattle.std.proofs.lemmas.Bool.{cases_eq}
 use Rattle.dl_lit.specs.declared.literal.Family.{Family}
 use Rattle.dl_marks.specs.Marks.{Marking, marked, is_owned}
-use Rattle.dl_net.specs.Numbers.{NetLists}
-use Rattle.dl_net.specs.Region.{Numbers}
+use Rattle.dl_graph.specs.Numbers.{NetLists}
+use Rattle.dl_graph.specs.Region.{Numbers}
 use Rattle.dl_fill.specs.Before.{tag_of}
 use Rattle.dl_fill.specs.Filled.{IsReady, IsFilled, IsRight}
 use Rattle.dl_fill.proofs.Written.{member_or_not}

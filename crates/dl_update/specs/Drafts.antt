@@ -3,7 +3,7 @@ use Rattle.std.specs.Prelude.{Bool, List, Contains, ℕ, ◌≤◌, length}
 use Rattle.dl_base.specs.Paths.{IsDistinct}
 use Rattle.dl_lit.specs.declared.literal.Literal.{Literal}
 use Rattle.dl_theory.specs.Lists.{TheoryLists}
-use Rattle.dl_net.specs.Named.{IsNear, Grows}
+use Rattle.dl_graph.specs.Named.{IsNear, Grows}
 use Rattle.dl_update.specs.declared.families.Families.{Families}
 
 -- a theory, its literals by number, the families whose marks are kept, and whether the draft can be shared

@@ -6,32 +6,31 @@ ghost use Rattle.dl_theory.specs.Lists.{IsWellFormed};
 ghost use Rattle.dl_theory.specs.Laws.{IsCoherent, IsConsistent, IsInclusive, IsLeastClosed};
 ghost use Rattle.dl_marks.specs.Marks.{IsFrozen};
 ghost use Rattle.dl_net.specs.Edited.{edit_literals};
-ghost use Rattle.dl_net.specs.Named.{IsNear, Grows};
+ghost use Rattle.dl_graph.specs.Named.{IsNear, Grows};
 ghost use Rattle.dl_update.specs.declared.families.Families.TheVariants as families_of;
 ghost use Rattle.dl_update.specs.Bound.{IsWithinCone};
 ghost use Rattle.dl_update.specs.RightIn.{AreRightIn};
 
-use crate::draft_net::DraftNet;
-use crate::family_net::FamilyNet;
+use crate::families::Families;
 use crate::places::grow;
 use crate::saturate::{fill_all, marks_in};
 use crate::unmarked::{clear_members, own_members};
 use crate::works::Works;
 use dl_base::Memory;
 use dl_cone::walk;
-use dl_lit::Family;
+use dl_graph::{Graph, Region};
 use dl_marks::{Marks, Steps};
-use dl_net::{Net, NumberedTheory, Region};
-use dl_theory::{Edit, EditStop, Theory};
+use dl_net::Net;
+use dl_theory::{Edit, EditStop};
 use std::alloc::Global;
 use std::marker::Model;
 use std::sync::ledger::Ledger;
 
-/// A theory by numbers and its marks: in each family that is kept, a mark stands exactly where its tagged literal follows. A draft over a
-/// `Net` keeps all families and takes edits; one over a `FamilyNet` keeps one family, and no statement but by numbers.
-pub struct Draft<N: DraftNet = Net> {
+/// A theory by numbers and its marks: in each family that is kept, a mark stands exactly where its tagged literal follows.
+pub struct Draft {
     alloc: Global,
-    net: N,
+    net: Net,
+    families: Families,
     marks: Marks,
     /// Room for the fills after an edit.
     works: Works,
@@ -41,11 +40,12 @@ pub struct Draft<N: DraftNet = Net> {
     frozen: bool,
 }
 
-impl<N: DraftNet> Drop for Draft<N> {
+impl Drop for Draft {
     fn drop(self) {
         let Draft {
             alloc: _,
             net: _,
+            families: _,
             marks: _,
             works: _,
             cone: _,
@@ -54,32 +54,45 @@ impl<N: DraftNet> Drop for Draft<N> {
     }
 }
 
-impl<N: DraftNet> Model for Draft<N> {
+impl Model for Draft {
     ghost use Rattle.dl_update.specs.Drafts.{DraftLists};
 
     ghost Value = { DraftLists };
 
     ghost use Rattle.dl_update.specs.KeptDraft.{draft_of, IsKeptDraft};
 
-    ghost view = { draft_of N.lists N.families };
+    ghost view = { draft_of };
 
-    ghost invariant = { IsKeptDraft N.lists N.families };
+    ghost invariant = { IsKeptDraft };
 }
 
-impl<N: DraftNet> Draft<N> {
-    /// The draft of a net. `Memory` where there is none for its marks.
-    fn of<L: Ledger>(alloc: Global, net: N, steps: &mut Steps<L>) -> Result<Draft<N>, Memory>
-        ensures theory { IfOk result (λ draft. draft.theory ≡ (N.lists net).theory) }
-        ensures families { IfOk result (λ draft. draft.families ≡ N.families net) }
+impl Draft {
+    /// The draft of a net's theory, in these families. `Memory` where there is none for its marks.
+    ///
+    /// No tagged literal of the theory follows together with its opposite, and what follows is the least set that is closed
+    /// under the conditions of proof. In blocking and in propagating, literals that attack each other are both proved only where both
+    /// are definite, and each family includes the one before it.
+    pub fn saturate<L: Ledger>(
+        alloc: Global,
+        net: Net,
+        families: Families,
+        steps: &mut Steps<L>,
+    ) -> Result<Draft, Memory>
+        ensures theory { IfOk result (λ draft. draft.theory ≡ net.theory) }
+        ensures families { IfOk result (λ draft. draft.families ≡ families) }
         ensures frozen { IfOk result (λ draft. draft.frozen ≡ false) }
-        ensures formed { OnOk result (IsWellFormed (N.lists net).theory) }
+        ensures coherent { OnOk result (IsCoherent net.theory) }
+        ensures least { OnOk result (IsLeastClosed net.theory) }
+        ensures consistent { OnOk result (IsConsistent net.theory) }
+        ensures inclusive { OnOk result (IsInclusive net.theory) }
     {
         let _names = net.graph().names();
         let mut works = Works::make(alloc);
-        let marks = marks_in(alloc, &net.graph(), net.families(), &mut works, steps)?;
+        let marks = marks_in(alloc, &net.graph(), families, &mut works, steps)?;
         Ok(Draft {
             alloc,
             net,
+            families,
             marks,
             works,
             cone: Region::none(alloc),
@@ -103,13 +116,12 @@ impl<N: DraftNet> Draft<N> {
 
     /// The net of the theory and its marks once more, which do not change with the draft. `Memory` where there is none for
     /// them.
-    pub fn share(&self) -> Result<(N, Marks), Memory>
+    pub fn share(&self) -> Result<(Net, Marks), Memory>
         requires { IsTrue self.now.frozen }
-        ensures theory { IfOk result (λ shared. (N.lists shared.0).theory ≡ self.now.theory) }
-        ensures names { IfOk result (λ shared. (N.lists shared.0).names ≡ self.now.names) }
-        ensures families { IfOk result (λ shared. N.families shared.0 ≡ self.now.families) }
-        ensures frozen { IfOk result (λ shared. IsTrue (N.lists shared.0).frozen) }
-        ensures right { IfOk result (λ shared. AreRightIn (N.families shared.0) self.now.theory self.now.names shared.1) }
+        ensures theory { IfOk result (λ shared. shared.0.theory ≡ self.now.theory) }
+        ensures names { IfOk result (λ shared. shared.0.names ≡ self.now.names) }
+        ensures frozen { IfOk result (λ shared. IsTrue shared.0.frozen) }
+        ensures right { IfOk result (λ shared. AreRightIn self.now.families self.now.theory self.now.names shared.1) }
         ensures unowned { IfOk result (λ shared. IsFrozen shared.1) }
     {
         let net = self.net.share()?;
@@ -117,13 +129,19 @@ impl<N: DraftNet> Draft<N> {
         Ok((net, marks))
     }
 
-    /// The net of the theory, which tells the families that are kept.
-    pub fn net(&self) -> &N
-        ensures theory { (N.lists result.now).theory ≡ self.now.theory }
-        ensures names { (N.lists result.now).names ≡ self.now.names }
-        ensures families { N.families result.now ≡ self.now.families }
+    /// What is read of the theory by numbers.
+    pub fn graph(&self) -> Graph<'_>
+        ensures theory { result.theory ≡ self.now.theory }
+        ensures names { result.names ≡ self.now.names }
     {
-        &self.net
+        self.net.graph()
+    }
+
+    /// The families whose marks are kept.
+    pub fn families(&self) -> Families
+        ensures { result ≡ self.now.families }
+    {
+        self.families
     }
 
     /// The marks of what follows from the theory in the families that are kept, with a place for each name.
@@ -132,39 +150,15 @@ impl<N: DraftNet> Draft<N> {
     {
         &self.marks
     }
-}
 
-impl Draft<Net> {
-    /// The draft of an equal theory, in all families. `Memory` where there is none for it.
-    ///
-    /// No tagged literal of the theory follows together with its opposite, and what follows is the least set that is closed
-    /// under the conditions of proof. In blocking and in propagating, literals that attack each other are both proved only where both
-    /// are definite, and each family includes the one before it.
-    pub fn saturate<L: Ledger>(
-        alloc: Global,
-        theory: &Theory,
-        steps: &mut Steps<L>,
-    ) -> Result<Draft<Net>, Memory>
-        ensures theory { IfOk result (λ draft. draft.theory ≡ theory.now) }
-        ensures families { IfOk result (λ draft. draft.families ≡ families_of.All) }
-        ensures frozen { IfOk result (λ draft. draft.frozen ≡ false) }
-        ensures coherent { OnOk result (IsCoherent theory.now) }
-        ensures least { OnOk result (IsLeastClosed theory.now) }
-        ensures consistent { OnOk result (IsConsistent theory.now) }
-        ensures inclusive { OnOk result (IsInclusive theory.now) }
-    {
-        let net = Net::of(alloc, theory.copy()?)?;
-        let draft = Draft::of(alloc, net, steps)?;
-        Ok(draft)
-    }
-
-    /// Makes an edit, or says why it is refused. After a refusal, and after `Memory`, the draft stands for the same theory;
+    /// Makes an edit of a draft that keeps all families, or says why it is refused. After a refusal, and after `Memory`, the draft stands for the same theory;
     /// it may have numbered the literals of the edit and their complements. No mark of a literal that has a number changes
     /// before all memory is there.
     ///
     /// It costs the cone of the edit: sixteen steps for each literal whose conclusions the edit can change, and eight for each that it is
     /// the first to name. No other mark is cleared or set.
     pub fn touch<L: Ledger>(&mut self, edit: &Edit, steps: &mut Steps<L>) -> Result<(), EditStop>
+        requires { self.old.families ≡ families_of.All }
         ensures edited { IsEdited self.old.theory edit.now self.new.theory result }
         ensures names { Grows (IsNear (edit_literals edit.now)) self.old.names self.new.names }
         ensures families { self.new.families ≡ self.old.families }
@@ -174,12 +168,13 @@ impl Draft<Net> {
         ensures consistent { IsConsistent self.new.theory }
         ensures inclusive { IsInclusive self.new.theory }
     {
-        let _names = self.net.names();
+        let _names = self.net.graph().names();
         self.change(edit, steps)
     }
 
     /// Makes an edit, or says why it is refused.
     fn change<L: Ledger>(&mut self, edit: &Edit, steps: &mut Steps<L>) -> Result<(), EditStop>
+        requires { self.old.families ≡ families_of.All }
         ensures edited { IsEdited self.old.theory edit.now self.new.theory result }
         ensures names { Grows (IsNear (edit_literals edit.now)) self.old.names self.new.names }
         ensures families { self.new.families ≡ self.old.families }
@@ -187,16 +182,15 @@ impl Draft<Net> {
         ensures steps { IsWithinCone self.old.theory self.old.names edit.now steps.old steps.new }
     {
         self.frozen = false;
-        let _known = self.net.names();
-        let count = grow(self.alloc, &self.net, edit, &mut self.marks, steps)?;
-        self.works.reserve(self.net.rules_len() + 1, count)?;
+        let count = grow(self.alloc, &self.net.graph(), edit, &mut self.marks, steps)?;
+        self.works.reserve_edit(&self.net.graph(), count)?;
         let prepared = self.net.prepare(edit);
-        let names = self.net.names();
+        let names = self.net.graph().names();
         let ready = prepared?;
         self.cone.clear();
         self.cone.widen(names)?;
         // a literal of the cone has a rule that is there before the edit, or is named by the edit
-        walk(&self.net, edit, &mut self.cone);
+        walk(&self.net.graph(), edit, &mut self.cone);
         own_members(&mut self.marks, &self.cone)?;
         self.net.commit(ready);
         clear_members(&mut self.marks, &self.cone, steps);
@@ -208,29 +202,5 @@ impl Draft<Net> {
             steps,
         );
         Ok(())
-    }
-}
-
-impl Draft<FamilyNet> {
-    /// The draft of a theory that was loaded by numbers, in one family. It takes no edits. `Memory` where there is none for it.
-    ///
-    /// The laws of what follows hold of the theory, as where all families are kept.
-    pub fn saturate_in<L: Ledger>(
-        alloc: Global,
-        theory: NumberedTheory,
-        family: Family,
-        steps: &mut Steps<L>,
-    ) -> Result<Draft<FamilyNet>, Memory>
-        ensures theory { IfOk result (λ draft. draft.theory ≡ theory.theory) }
-        ensures families { IfOk result (λ draft. draft.families ≡ families_of.One family) }
-        ensures frozen { IfOk result (λ draft. draft.frozen ≡ false) }
-        ensures coherent { OnOk result (IsCoherent theory.theory) }
-        ensures least { OnOk result (IsLeastClosed theory.theory) }
-        ensures consistent { OnOk result (IsConsistent theory.theory) }
-        ensures inclusive { OnOk result (IsInclusive theory.theory) }
-    {
-        let net = FamilyNet::of(alloc, theory, family)?;
-        let draft = Draft::of(alloc, net, steps)?;
-        Ok(draft)
     }
 }

@@ -2,20 +2,16 @@
 //!
 //! Marks are right where a mark stands exactly if its tagged literal follows from the theory. They begin with no mark at any
 //! number, and the region of all numbers is filled, family after family: first the definite one, then those that stand on it.
-//! A `Draft` has such marks for its net. Over a `Net` these are the marks of all families, and an edit clears and fills those of its cone;
-//! over a `FamilyNet`, which takes no edits, those of the one family that is asked for, and only what this one needs is filled.
+//! A `Draft` has such marks for its net, in the families that it is made for: all four where edits are to come, or one where nothing else
+//! is asked, and then only what this one needs is filled. An edit clears and fills the marks of its cone. Begin with `draft.rt`.
 #![tactic(auto)]
 
 mod draft;
-mod draft_net;
 mod families;
-mod family_net;
 mod places;
 mod saturate;
 mod unmarked;
 mod works;
 
 pub use draft::Draft;
-pub use draft_net::DraftNet;
 pub use families::Families;
-pub use family_net::FamilyNet;

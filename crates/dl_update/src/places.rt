@@ -7,20 +7,20 @@ ghost use Rattle.dl_theory.specs.Marks.{AreRight};
 ghost use Rattle.dl_marks.specs.Marks.{places, marked};
 ghost use Rattle.dl_fill.specs.Filled.{stands};
 ghost use Rattle.dl_net.specs.Edited.{edit_literals};
-ghost use Rattle.dl_net.specs.Named.{IsPaired, Grows};
+ghost use Rattle.dl_graph.specs.Named.{IsPaired, Grows};
 ghost use Rattle.dl_update.specs.Bound.{IsWithinNew};
 ghost use Rattle.dl_update.specs.Drafts.{IsNew, IsEnough, GrowsBy};
 
 use dl_base::Memory;
+use dl_graph::Graph;
 use dl_lit::{Literal, Names};
 use dl_marks::{Marks, Steps};
-use dl_net::Net;
 use dl_theory::{Edit, Rule};
 use std::alloc::Global;
 use std::sync::ledger::Ledger;
 
 /// Collects a literal and its complement, where the net does not number them.
-fn collect(names: &mut Names, net: &Net, literal: &Literal) -> Result<(), Memory>
+fn collect(names: &mut Names, net: &Graph<'_>, literal: &Literal) -> Result<(), Memory>
     requires { IsPaired names.old.literals }
     ensures paired { IsPaired names.new.literals }
     ensures grown { Grows (IsNew net.now.names (literal.now ∷ [])) names.old.literals names.new.literals }
@@ -34,7 +34,7 @@ fn collect(names: &mut Names, net: &Net, literal: &Literal) -> Result<(), Memory
 }
 
 /// Collects literals and their complements, where the net does not number them.
-fn collect_all(names: &mut Names, net: &Net, literals: &[Literal]) -> Result<(), Memory>
+fn collect_all(names: &mut Names, net: &Graph<'_>, literals: &[Literal]) -> Result<(), Memory>
     requires { IsPaired names.old.literals }
     ensures paired { IsPaired names.new.literals }
     ensures grown { Grows (IsNew net.now.names literals.now) names.old.literals names.new.literals }
@@ -47,7 +47,7 @@ fn collect_all(names: &mut Names, net: &Net, literals: &[Literal]) -> Result<(),
 }
 
 /// Collects the literals of a rule and their complements, where the net does not number them.
-fn collect_rule(names: &mut Names, net: &Net, rule: &Rule) -> Result<(), Memory>
+fn collect_rule(names: &mut Names, net: &Graph<'_>, rule: &Rule) -> Result<(), Memory>
     requires { IsPaired names.old.literals }
     ensures grown { Grows (IsNew net.now.names (rule.now.head ∷ rule.now.body)) names.old.literals names.new.literals }
     ensures there { OnOk result ((q : Literal) → IsNew net.now.names (rule.now.head ∷ rule.now.body) q → Contains names.new.literals q) }
@@ -57,7 +57,7 @@ fn collect_rule(names: &mut Names, net: &Net, rule: &Rule) -> Result<(), Memory>
 }
 
 /// Collects the literals of an edit and their complements, where the net does not number them.
-fn collect_edit(names: &mut Names, net: &Net, edit: &Edit) -> Result<(), Memory>
+fn collect_edit(names: &mut Names, net: &Graph<'_>, edit: &Edit) -> Result<(), Memory>
     requires { IsPaired names.old.literals }
     ensures grown { Grows (IsNew net.now.names (edit_literals edit.now)) names.old.literals names.new.literals }
     ensures there { OnOk result ((q : Literal) → IsNew net.now.names (edit_literals edit.now) q → Contains names.new.literals q) }
@@ -73,7 +73,7 @@ fn collect_edit(names: &mut Names, net: &Net, edit: &Edit) -> Result<(), Memory>
 }
 
 /// The literals of an edit and their complements that the net does not number, each once.
-fn new_names(alloc: Global, net: &Net, edit: &Edit) -> Result<Names, Memory>
+fn new_names(alloc: Global, net: &Graph<'_>, edit: &Edit) -> Result<Names, Memory>
     ensures grown { IfOk result (λ names. Grows (IsNew net.now.names (edit_literals edit.now)) [] names.literals) }
     ensures there { IfOk result (λ names. (q : Literal) → IsNew net.now.names (edit_literals edit.now) q → Contains names.literals q) }
 {
@@ -83,7 +83,7 @@ fn new_names(alloc: Global, net: &Net, edit: &Edit) -> Result<Names, Memory>
 }
 
 /// The sum of two counts. `Memory` where there is no number for it.
-fn sum_of(first: usize, second: usize) -> Result<usize, Memory>
+pub fn sum_of(first: usize, second: usize) -> Result<usize, Memory>
     ensures { IfOk result (λ sum. sum ≡ first + second) }
 {
     match first.checked_add(second) {
@@ -111,7 +111,7 @@ fn lengthen<L: Ledger>(marks: &mut Marks, count: usize, steps: &mut Steps<L>) ->
 /// right as before.
 pub fn grow<L: Ledger>(
     alloc: Global,
-    net: &Net,
+    net: &Graph<'_>,
     edit: &Edit,
     marks: &mut Marks,
     steps: &mut Steps<L>,

@@ -18,9 +18,9 @@ use dl_base::Memory;
 use dl_block::BlockGates;
 use dl_definite::DefiniteGates;
 use dl_fill::{FamilyGates, FillRoom, fill};
+use dl_graph::{Graph, Region};
 use dl_lit::Family;
 use dl_marks::{Marks, Steps};
-use dl_net::{Graph, Region};
 use dl_prop::PropGates;
 use std::alloc::Global;
 use std::sync::ledger::Ledger;
@@ -39,7 +39,7 @@ fn fill_alone<G: FamilyGates, L: Ledger>(
     ensures { OnOk result (IsFilled net.now (IsFilledBy G.table) marks.old marks.new) }
 {
     let mut room = FillRoom::make(alloc, gates);
-    room.reserve(net.rules_len(), net.names())?;
+    room.reserve(net.rule_numbers(), net.names())?;
     fill(gates, net, marks, region, &mut room, steps);
     Ok(())
 }
@@ -92,7 +92,7 @@ pub fn fill_all<L: Ledger>(
     marks: &mut Marks,
     steps: &mut Steps<L>,
 )
-    requires room { HasRoom (length net.now.theory.rules) (length net.now.names) works.old }
+    requires room { HasRoom (length net.now.rules) (length net.now.names) works.old }
     requires ready { IsReady net.now (λ _. Unit {0}) marks.old region.now }
     ensures right { AreRight net.now.theory net.now.names (places marks.new) (stands marks.new) }
     ensures steps { steps.new ≤ steps.old + 8 * length region.now.members }
@@ -122,7 +122,7 @@ fn all_marks<L: Ledger>(
     let names = net.names();
     let region = everywhere(alloc, names)?;
     let mut marks = no_marks(alloc, net, &region, steps)?;
-    works.reserve(net.rules_len(), names)?;
+    works.reserve(net.rule_numbers(), names)?;
     fill_all(net, &region, works, &mut marks, steps);
     Ok(marks)
 }

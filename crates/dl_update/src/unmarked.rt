@@ -4,15 +4,15 @@ ghost use Rattle.std.specs.Prelude.{◌≡◌, ◌+◌, ◌*◌, ◌<◌, ℕ, B
 ghost use Rattle.dl_lit.specs.declared.literal.Tag.{Tag};
 ghost use Rattle.dl_lit.specs.declared.literal.Family.{Family};
 ghost use Rattle.dl_marks.specs.Marks.{places, marked, is_owned};
-ghost use Rattle.dl_net.specs.Region.{IsRegion};
+ghost use Rattle.dl_graph.specs.Region.{IsRegion};
 ghost use Rattle.dl_fill.specs.Before.{tag_of};
 ghost use Rattle.dl_fill.specs.Filled.{IsReady};
 ghost use Rattle.dl_update.specs.Whole.{IsWhole};
 
 use dl_base::Memory;
+use dl_graph::{Graph, Region};
 use dl_lit::{Family, Tag};
 use dl_marks::{Marks, Steps};
-use dl_net::{Graph, Region};
 use std::alloc::Global;
 use std::sync::ledger::Ledger;
 

@@ -5,10 +5,12 @@ ghost use Rattle.dl_definite.specs.Definite.{definite_table};
 ghost use Rattle.dl_block.specs.Block.{block_table};
 ghost use Rattle.dl_prop.specs.Propagation.{propagation_table};
 
+use crate::places::sum_of;
 use dl_base::Memory;
 use dl_block::BlockGates;
 use dl_definite::DefiniteGates;
 use dl_fill::FillRoom;
+use dl_graph::Graph;
 use dl_prop::PropGates;
 use std::alloc::Global;
 
@@ -27,7 +29,7 @@ pub(crate) struct Works {
 }
 
 impl Works {
-    ghost use Rattle.std.specs.Prelude.{OnOk};
+    ghost use Rattle.std.specs.Prelude.{OnOk, ◌+◌, length};
     ghost use Rattle.dl_update.specs.Room.{HasRoom};
 
     /// No room.
@@ -61,5 +63,12 @@ impl Works {
         self.rules = rules;
         self.names = names;
         Ok(())
+    }
+    /// Room for the fills after an edit of a graph's theory, which adds one number of a rule at most. `Memory` where there is none for that.
+    pub fn reserve_edit(&mut self, net: &Graph<'_>, names: usize) -> Result<(), Memory>
+        ensures { OnOk result (HasRoom (length net.now.rules + 1) names self.new) }
+    {
+        let rules = sum_of(net.rule_numbers(), 1)?;
+        self.reserve(rules, names)
     }
 }

@@ -1,5 +1,5 @@
 use Rattle.std.proofs.Common.{refl, subst}
-use Rattle.dl_net.specs.Numbers.{NetLists}
+use Rattle.dl_graph.specs.Numbers.{NetLists}
 use Rattle.ddl.specs.declared.theory_file.Loaded.{Loaded}
 use Rattle.ddl.specs.Theories.{IsLoaded}
 use Rattle.ddl.specs.Words.{Conclude}

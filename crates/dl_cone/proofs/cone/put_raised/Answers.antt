@@ -2,12 +2,12 @@ use Rattle.std.proofs.Common.{◌≡◌, ◌<◌, Some, length, arith, ap, sym, 
 use Rattle.std.specs.Prelude.{slice_get}
 use Rattle.std.proofs.lemmas.Option.{slice_get-get_or, get_or_from_slice_get}
 use Rattle.dl_theory.specs.Cones.{IsOrAttacks, RaisesTo}
-use Rattle.dl_net.specs.Numbers.{next, rule_at, literal_at}
-use Rattle.dl_net.specs.declared.link.Link.TheVariants.{Uses}
+use Rattle.dl_graph.specs.Numbers.{next, rule_at, literal_at}
+use Rattle.dl_graph.specs.declared.link.Link.TheVariants.{Uses}
 use Rattle.dl_derive.specs.Back.{FromRow}
 use Rattle.dl_derive.proofs.Gaining.{front_starts, front_goes, front_ends}
 use Rattle.dl_cone.specs.Walked.{IsNumberOf}
-use Rattle.dl_cone.proofs.Raising.{gains_same, raising, using_inside}
+use Rattle.dl_cone.proofs.Raising.{gains_same, raising, using_there}
 use Rattle.dl_cone.proofs.cone.put_raised.Goals as goal
 
 pub loop-at-init : goal.loop-at-init
@@ -22,7 +22,7 @@ put_head-requires-clause-rule c =
     let row = next c.args.net.now Uses c.args.number in
     let inside : c.loop-at.at < length row = omega (arith, c.loop-at-test.true, c.next_len-at-end.ensures) in
     let stands : slice_get row c.loop-at.at ≡ Some c.next-rule.result = slice_get-get_or row c.loop-at.at 0 inside ∙ ap Some (sym c.next-rule.ensures) in
-    using_inside c.args.net.now c.requires.numbered c.args.number c.next-rule.result
+    using_there c.args.net.now c.requires.numbered c.args.number c.next-rule.result
     (c.loop-at.at, inside, get_or_from_slice_get row c.loop-at.at c.next-rule.result c.next-rule.result stands)
 
 pub put_head-requires-clause-bound : goal.put_head-requires-clause-bound

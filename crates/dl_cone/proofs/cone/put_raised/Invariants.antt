@@ -1,6 +1,6 @@
 use Rattle.dl_theory.specs.Cones.{IsOrAttacks}
-use Rattle.dl_net.specs.Numbers.{next, rule_at}
-use Rattle.dl_net.specs.declared.link.Link.TheVariants.{Uses}
+use Rattle.dl_graph.specs.Numbers.{next, rule_at}
+use Rattle.dl_graph.specs.declared.link.Link.TheVariants.{Uses}
 use Rattle.dl_derive.specs.Back.{Gains}
 use Rattle.dl_derive.proofs.Gaining.{InFront}
 use Rattle.dl_cone.specs.Walked.{IsNumberOf}

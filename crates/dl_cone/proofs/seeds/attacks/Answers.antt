@@ -2,7 +2,7 @@ use Rattle.std.proofs.Common.{ℕ, Some, ◌≡◌, arith, inl, inr, ap, sym, su
 use Rattle.std.specs.Prelude.{slice_get}
 use Rattle.std.proofs.lemmas.Bool.{cases_lt}
 use Rattle.std.proofs.lemmas.Option.{slice_get_within, get_or_from_slice_get}
-use Rattle.dl_net.specs.Numbers.{attackers_row, literal_at}
+use Rattle.dl_graph.specs.Numbers.{attackers_row, literal_at}
 use Rattle.dl_derive.proofs.Gaining.{none_past}
 use Rattle.dl_cone.proofs.Raising.{attacking}
 use Rattle.dl_cone.proofs.seeds.attacks.Goals as goal

@@ -1,5 +1,5 @@
 use Rattle.std.proofs.Common.{ℕ, ◌<◌, ◌≢◌, ◌-◌, length, get_or}
-use Rattle.dl_net.specs.Numbers.{attackers_row, literal_at}
+use Rattle.dl_graph.specs.Numbers.{attackers_row, literal_at}
 use Rattle.dl_cone.proofs.seeds.attacks.Given as goal
 
 abbrev pub invariant-loop-attacker : goal.invariant-loop-attacker

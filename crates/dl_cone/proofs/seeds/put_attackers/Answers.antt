@@ -1,5 +1,5 @@
 use Rattle.std.proofs.Common.{arith, sym, ◌∙◌}
-use Rattle.dl_net.specs.Numbers.{attackers_row, literal_at}
+use Rattle.dl_graph.specs.Numbers.{attackers_row, literal_at}
 use Rattle.dl_fill.proofs.Reading.{attacker_inside}
 use Rattle.dl_theory.specs.Lists.{attackers}
 use Rattle.std.specs.Prelude.{Contains}

@@ -1,7 +1,7 @@
 use Rattle.std.proofs.Common.{subst, ap, ◌∙◌}
 use Rattle.dl_lit.specs.declared.literal.Literal.{Literal}
 use Rattle.dl_theory.specs.Cones.{IsOrAttacks}
-use Rattle.dl_net.specs.Numbers.{literal_at}
+use Rattle.dl_graph.specs.Numbers.{literal_at}
 use Rattle.dl_derive.specs.Back.{Gains}
 use Rattle.dl_cone.specs.Walked.{IsNumberOf}
 use Rattle.dl_cone.proofs.Raising.{head_found}

@@ -2,7 +2,7 @@ use Rattle.std.proofs.Common.{◌∙◌, ap, sym, subst, true≢false}
 use Rattle.std.specs.Prelude.{Contains}
 use Rattle.dl_lit.specs.declared.literal.Literal.{Literal}
 use Rattle.dl_theory.specs.Lists.{attackers}
-use Rattle.dl_net.specs.Numbers.{literal_at, rule_at}
+use Rattle.dl_graph.specs.Numbers.{literal_at, rule_at}
 use Rattle.dl_derive.specs.Back.{Gains}
 use Rattle.dl_derive.proofs.Gaining.{gains_none, gains_one}
 use Rattle.dl_cone.specs.Walked.{IsNumberOf, IsOfRivals}

@@ -3,9 +3,9 @@ use Rattle.std.specs.Prelude.{Contains}
 use Rattle.std.proofs.lemmas.List.Elements.{Contains-get_or}
 use Rattle.dl_lit.specs.declared.literal.Literal.{Literal}
 use Rattle.dl_theory.specs.Cones.{IsOrAttacks}
-use Rattle.dl_net.specs.Numbers.{NetLists, no_literal, literal_at}
+use Rattle.dl_graph.specs.Numbers.{NetLists, no_literal, literal_at}
 use Rattle.dl_fill.proofs.Attacks.{attack_turns}
-use Rattle.dl_net.proofs.NameLemmas.{found_at}
+use Rattle.dl_names.proofs.NameLemmas.{found_at}
 use Rattle.dl_fill.proofs.Links.{attacker_named}
 use Rattle.dl_derive.specs.Back.{Gains}
 use Rattle.dl_derive.proofs.Gaining.{gains_none}

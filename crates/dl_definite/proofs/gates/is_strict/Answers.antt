@@ -4,4 +4,4 @@ use Rattle.dl_definite.proofs.Definite.{proves_where_strict}
 use Rattle.dl_definite.proofs.gates.is_strict.Goals as goal
 
 pub returns : goal.returns
-returns c = ap (nat_lt 0) c.next_len.ensures ∙ proves_where_strict c.args.net.now c.args.rule c.requires
+returns c = ap (nat_lt 0) c.next_len.ensures ∙ proves_where_strict c.args.net.now c.args.rule

@@ -1,5 +1,5 @@
 use Rattle.std.proofs.Common.{arith, sym, ◌∙◌}
-use Rattle.dl_net.specs.Numbers.{attackers_row, literal_at}
+use Rattle.dl_graph.specs.Numbers.{attackers_row, literal_at}
 use Rattle.dl_derive.specs.Back.{Is}
 use Rattle.dl_derive.proofs.Gaining.{front_starts, front_goes, front_ends, gains_one, none_past}
 use Rattle.dl_fill.proofs.Reading.{attacker_inside}

@@ -1,5 +1,5 @@
 use Rattle.std.proofs.Common.{◌-◌, length}
-use Rattle.dl_net.specs.Numbers.{attackers_row, literal_at}
+use Rattle.dl_graph.specs.Numbers.{attackers_row, literal_at}
 use Rattle.dl_derive.specs.Back.{Is, Gains}
 use Rattle.dl_derive.proofs.Gaining.{InFront}
 use Rattle.dl_derive.proofs.back.put_attackers.Given as goal

@@ -1,6 +1,6 @@
 use Rattle.std.proofs.Common.{inl, inr}
-use Rattle.dl_net.specs.Numbers.{attackers_row, heads, back, literal_at}
-use Rattle.dl_net.specs.declared.link.Link.TheVariants.{Uses}
+use Rattle.dl_graph.specs.Numbers.{attackers_row, heads, back, literal_at}
+use Rattle.dl_graph.specs.declared.link.Link.TheVariants.{Uses}
 use Rattle.dl_derive.specs.Back.{Is, FromRow, RestsAt}
 use Rattle.dl_derive.proofs.Gaining.{gains_then}
 use Rattle.dl_derive.proofs.back.put_next.Goals as goal

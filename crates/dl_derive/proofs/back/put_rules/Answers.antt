@@ -1,7 +1,7 @@
 use Rattle.std.proofs.Common.{arith, sym, ◌∙◌}
 use Rattle.std.proofs.lemmas.Option.{slice_get_within, get_or_from_slice_get}
-use Rattle.dl_net.specs.Numbers.{heads, back}
-use Rattle.dl_net.specs.declared.link.Link.TheVariants.{Uses}
+use Rattle.dl_graph.specs.Numbers.{heads, back}
+use Rattle.dl_graph.specs.declared.link.Link.TheVariants.{Uses}
 use Rattle.dl_derive.specs.Back.{Is, FromRow}
 use Rattle.dl_derive.proofs.Gaining.{front_starts, front_goes, front_ends, none_past}
 use Rattle.dl_derive.proofs.Resting.{rule_inside, few_heads}

@@ -1,5 +1,5 @@
-use Rattle.dl_net.specs.Numbers.{heads, back}
-use Rattle.dl_net.specs.declared.link.Link.TheVariants.{Uses}
+use Rattle.dl_graph.specs.Numbers.{heads, back}
+use Rattle.dl_graph.specs.declared.link.Link.TheVariants.{Uses}
 use Rattle.dl_derive.specs.Back.{Is, FromRow, Gains}
 use Rattle.dl_derive.proofs.Gaining.{InFront}
 use Rattle.dl_derive.proofs.back.put_rules.Given as goal

@@ -1,9 +1,10 @@
-use Rattle.std.proofs.Common.{List, ◌<◌, length, arith, sym, subst, ◌∙◌}
+use Rattle.std.proofs.Common.{List, arith, sym, subst, ◌∙◌}
 use Rattle.std.proofs.lemmas.Option.{slice_get_within, get_or_from_slice_get}
 use Rattle.std.proofs.lemmas.List.Elements.{All-contains}
 use Rattle.dl_base.proofs.Distinct.{distinct_nil}
 use Rattle.dl_base.specs.Paths.{IsDistinct}
 use Rattle.dl_theory.specs.declared.rule.Pair.{Pair}
+use Rattle.dl_graph.specs.Numbers.{HasRule}
 use Rattle.dl_derive.proofs.Gaining.{none_past}
 use Rattle.dl_derive.proofs.Cutting.{below_none, below_more, below_all}
 use Rattle.dl_derive.proofs.below.pairs_below.Goals as goal
@@ -11,7 +12,7 @@ use Rattle.dl_derive.proofs.below.pairs_below.Goals as goal
 pub put_below-requires-clause-rule : goal.put_below-requires-clause-rule
 put_below-requires-clause-rule c =
     let e = sym c.at.ensures.member ∙ c.in-Some.is in
-    All-contains (λ r. r < length c.args.net.now.theory.rules) c.args.rules.now.members c.in-Some.rule c.requires
+    All-contains (HasRule c.args.net.now) c.args.rules.now.members c.in-Some.rule c.requires
     (c.loop-at.at, slice_get_within c.args.rules.now.members c.loop-at.at c.in-Some.rule e, get_or_from_slice_get c.args.rules.now.members c.loop-at.at c.in-Some.rule c.in-Some.rule e)
 
 pub loop-at-preserved : goal.loop-at-preserved

@@ -2,8 +2,8 @@ use Rattle.std.proofs.Common.{◌≡◌, ◌<◌, Some, length, arith, ap, sym, 
 use Rattle.std.specs.Prelude.{slice_get}
 use Rattle.std.proofs.lemmas.Option.{slice_get-get_or, get_or_from_slice_get}
 use Rattle.dl_theory.specs.declared.rule.Pair.{Pair}
-use Rattle.dl_net.specs.Numbers.{next}
-use Rattle.dl_net.specs.declared.link.Link.TheVariants.{Counters}
+use Rattle.dl_graph.specs.Numbers.{next}
+use Rattle.dl_graph.specs.declared.link.Link.TheVariants.{Counters}
 use Rattle.dl_derive.specs.Part.{Adds, pair_at}
 use Rattle.dl_derive.proofs.Cutting.{gathers_none, gathers_more, gathers_all, below_sound}
 use Rattle.dl_derive.proofs.below.put_below.Goals as goal
@@ -20,7 +20,7 @@ pair_of-requires-clause-lower c =
     let inside : c.loop-at.at < length row = omega (arith, c.loop-at-test.true, c.next_len-at-end.ensures) in
     let stands : slice_get row c.loop-at.at ≡ Some c.next-lower.result =
     slice_get-get_or row c.loop-at.at 0 inside ∙ ap Some (sym c.next-lower.ensures) in
-    (below_sound c.args.net.now c.names-names.ensures.numbered c.args.rule c.next-lower.result c.requires.rule
+    (below_sound c.args.net.now c.names-names.ensures.numbered c.args.rule c.next-lower.result
     (c.loop-at.at, inside, get_or_from_slice_get row c.loop-at.at c.next-lower.result c.next-lower.result stands)).0
 
 pub loop-at-preserved : goal.loop-at-preserved

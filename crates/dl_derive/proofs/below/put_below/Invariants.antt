@@ -1,7 +1,7 @@
 use Rattle.std.proofs.Common.{map, take}
 use Rattle.dl_base.specs.Paths.{IsDistinct}
-use Rattle.dl_net.specs.Numbers.{next}
-use Rattle.dl_net.specs.declared.link.Link.TheVariants.{Counters}
+use Rattle.dl_graph.specs.Numbers.{next}
+use Rattle.dl_graph.specs.declared.link.Link.TheVariants.{Counters}
 use Rattle.dl_derive.specs.Part.{Gathers, pair_at}
 use Rattle.dl_derive.proofs.below.put_below.Given as goal
 

@@ -3,7 +3,7 @@ use Rattle.dl_lit.specs.declared.literal.Tagged.{Tagged}
 use Rattle.dl_lit.specs.declared.literal.Family.TheVariants.{Definite}
 use Rattle.dl_lit.specs.Literal.{tagged}
 use Rattle.dl_theory.specs.Verdicts.{DerivesAt}
-use Rattle.dl_net.specs.Numbers.{literal_at}
+use Rattle.dl_graph.specs.Numbers.{literal_at}
 use Rattle.dl_fill.proofs.Solved.{needs_definite}
 use Rattle.dl_fill.proofs.Written.{exact_of_right}
 use Rattle.dl_derive.proofs.Certified.{led_derives}

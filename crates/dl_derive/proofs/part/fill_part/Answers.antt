@@ -3,7 +3,7 @@ use Rattle.std.specs.Prelude.{◌↔◌, Contains}
 use Rattle.dl_lit.specs.declared.literal.Literal.{Literal}
 use Rattle.dl_theory.specs.declared.rule.Rule.{Rule}
 use Rattle.dl_theory.specs.Lists.{TheoryLists}
-use Rattle.dl_net.specs.Numbers.{rule_at}
+use Rattle.dl_graph.specs.Numbers.{rule_at}
 use Rattle.dl_derive.specs.Part.{IsOf}
 use Rattle.dl_derive.proofs.Cutting.{pairs_within, pairs_labelled, is_part}
 use Rattle.dl_derive.proofs.part.fill_part.Goals as goal

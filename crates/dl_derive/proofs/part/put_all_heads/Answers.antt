@@ -1,7 +1,7 @@
 use Rattle.std.proofs.Common.{◌<◌, length, arith, sym, ◌∙◌}
 use Rattle.std.proofs.lemmas.Option.{slice_get_within, get_or_from_slice_get}
 use Rattle.std.proofs.lemmas.List.Elements.{All-contains}
-use Rattle.dl_net.specs.Numbers.{heads}
+use Rattle.dl_graph.specs.Numbers.{heads}
 use Rattle.dl_derive.specs.Back.{Is, FromRow}
 use Rattle.dl_derive.proofs.Gaining.{front_starts, front_goes, front_ends, none_past}
 use Rattle.dl_derive.proofs.part.put_all_heads.Goals as goal

@@ -1,4 +1,4 @@
-use Rattle.dl_net.specs.Numbers.{heads}
+use Rattle.dl_graph.specs.Numbers.{heads}
 use Rattle.dl_derive.specs.Back.{Is, FromRow, Gains}
 use Rattle.dl_derive.proofs.Gaining.{InFront}
 use Rattle.dl_derive.proofs.part.put_all_heads.Given as goal

@@ -3,7 +3,7 @@ use Rattle.std.specs.Prelude.{Contains}
 use Rattle.std.proofs.lemmas.Map.Made.{is_member-Decides}
 use Rattle.dl_lit.specs.declared.literal.Literal.{Literal}
 use Rattle.dl_lit.specs.Order.{literal_eq-Decides}
-use Rattle.dl_net.specs.Numbers.{literal_at}
+use Rattle.dl_graph.specs.Numbers.{literal_at}
 use Rattle.dl_derive.specs.Part.{Adds}
 use Rattle.dl_derive.proofs.Fitting.{adds_if, adds_none, on_ok}
 use Rattle.dl_derive.proofs.part.put_fact.Goals as goal

@@ -1,6 +1,7 @@
 use Rattle.std.proofs.Common.{arith, sym, ◌∙◌}
 use Rattle.std.proofs.lemmas.Option.{slice_get_within, get_or_from_slice_get}
-use Rattle.dl_net.specs.Numbers.{heads}
+use Rattle.dl_graph.specs.Numbers.{heads}
+use Rattle.dl_graph.proofs.Slots.{rule_within}
 use Rattle.dl_derive.specs.Back.{Is}
 use Rattle.dl_derive.proofs.Gaining.{front_starts, front_goes, front_ends, gains_one, none_past}
 use Rattle.dl_derive.proofs.Resting.{rule_inside, few_heads}
@@ -13,10 +14,10 @@ pub put-requires : goal.put-requires
 put-requires c =
     let e = sym c.heads.ensures ∙ c.in-Some.is in
     let row = heads c.args.net.now c.args.number in
-    let inside =
+    let has =
     rule_inside c.args.net.now c.names-names.ensures.numbered c.args.number c.in-Some.rule c.requires.number
     (c.loop-at.at, slice_get_within row c.loop-at.at c.in-Some.rule e, get_or_from_slice_get row c.loop-at.at c.in-Some.rule c.in-Some.rule e) in
-    omega (arith, inside, c.loop-at.invariant.gains.bound, c.requires.bound)
+    omega (arith, rule_within c.args.net.now c.in-Some.rule has, c.loop-at.invariant.gains.bound, c.requires.bound)
 
 pub loop-at-preserved : goal.loop-at-preserved
 loop-at-preserved c = record {

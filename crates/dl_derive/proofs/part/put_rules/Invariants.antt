@@ -1,5 +1,5 @@
 use Rattle.std.proofs.Common.{◌≡◌}
-use Rattle.dl_net.specs.Numbers.{rule_at}
+use Rattle.dl_graph.specs.Numbers.{rule_at}
 use Rattle.dl_derive.proofs.Cutting.{HasFront}
 use Rattle.dl_derive.proofs.part.put_rules.Given as goal
 

@@ -3,7 +3,7 @@ use Rattle.std.proofs.lemmas.List.Elements.{All-contains}
 use Rattle.dl_base.proofs.Members.{only}
 use Rattle.dl_lit.specs.declared.literal.Family.TheVariants.{Definite}
 use Rattle.dl_marks.specs.Marks.{marked}
-use Rattle.dl_net.specs.Counting.{times}
+use Rattle.dl_graph.specs.Counting.{times}
 use Rattle.dl_fill.specs.Before.{before_of, IsExact}
 use Rattle.dl_fill.specs.Reads.{basis_at}
 use Rattle.dl_fill.proofs.Written.{exact_of_right, times_contains}

@@ -1,5 +1,5 @@
 use Rattle.std.proofs.Common.{arith, sym, ◌∙◌}
-use Rattle.dl_net.specs.Numbers.{attackers_row, literal_at}
+use Rattle.dl_graph.specs.Numbers.{attackers_row, literal_at}
 use Rattle.dl_fill.proofs.Reading.{attacker_inside}
 use Rattle.dl_derive.proofs.Gaining.{none_past}
 use Rattle.dl_derive.proofs.Wanting.{more_none, more_then, in_front_next, in_front_all}

@@ -1,5 +1,5 @@
 use Rattle.std.proofs.Common.{◌-◌, length}
-use Rattle.dl_net.specs.Numbers.{attackers_row, literal_at}
+use Rattle.dl_graph.specs.Numbers.{attackers_row, literal_at}
 use Rattle.dl_derive.specs.Wanted.{IsMore}
 use Rattle.dl_derive.proofs.Wanting.{InFrontOf}
 use Rattle.dl_derive.proofs.wanted.want_attackers.Given as goal

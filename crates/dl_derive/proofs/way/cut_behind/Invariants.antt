@@ -1,5 +1,5 @@
 use Rattle.std.proofs.Common.{◌≡◌, take}
-use Rattle.dl_net.specs.Counting.{times}
+use Rattle.dl_graph.specs.Counting.{times}
 use Rattle.dl_derive.proofs.way.cut_behind.Given as goal
 
 abbrev pub invariant-loop-place : goal.invariant-loop-place

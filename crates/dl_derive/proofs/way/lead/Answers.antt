@@ -1,5 +1,5 @@
 use Rattle.std.proofs.Common.{ℕ, ◌<◌, List, length, arith, subst, ap, ◌∙◌}
-use Rattle.dl_net.specs.Counting.{times}
+use Rattle.dl_graph.specs.Counting.{times}
 use Rattle.dl_derive.proofs.Running.{queue_inside, nodes_live, room_whole, room_names, room_rules, front_in_order, front_in_room, front_leads}
 use Rattle.dl_derive.proofs.way.lead.Goals as goal
 

@@ -1,5 +1,5 @@
 use Rattle.std.proofs.Common.{ℕ, ◌<◌, List, length, arith, sym, subst, ◌∙◌}
-use Rattle.dl_net.specs.Counting.{times}
+use Rattle.dl_graph.specs.Counting.{times}
 use Rattle.dl_fill.specs.Before.{before_of}
 use Rattle.dl_fill.proofs.Pruning.{pruned_ordered}
 use Rattle.dl_derive.proofs.Running.{queue_ordered, queue_inside, nodes_live, room_whole, room_names, room_rules}

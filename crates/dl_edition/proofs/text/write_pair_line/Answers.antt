@@ -1,11 +1,25 @@
-use Rattle.std.proofs.Common.{[], ◌∷◌}
+use Rattle.std.proofs.Common.{[], ◌∷◌, sym, subst}
+use Rattle.std.specs.Prelude.{Option}
+use Rattle.std.specs.Option.{option_map}
 use Rattle.std.proofs.lemmas.Result.{err_from_is_err_and}
-use Rattle.dl_print.specs.Text.{pair_text}
-use Rattle.dl_print.proofs.Writes.{cut_first, then_all}
+use Rattle.dl_io.specs.Streams.{WritesAll}
+use Rattle.dl_graph.specs.declared.pair_ref.PairRef.{PairRef}
+use Rattle.dl_graph.specs.Borrowed.{pair_of}
+use Rattle.dl_print.specs.Text.{pair_text, line}
+use Rattle.dl_print.proofs.Writes.{Cuts, cut_first, then_all}
+use Rattle.dl_edition.specs.Lines.{slot_text}
 use Rattle.dl_edition.proofs.text.write_pair_line.Goals as goal
 
-pub returns-in_err-write_pair-clause-bytes : goal.returns-in_err-write_pair-clause-bytes
-returns-in_err-write_pair-clause-bytes g c = let p = err_from_is_err_and c.from_residual.result c.from_residual.ensures.1 in rw p.1 (cut_first _ _ (pair_text c.args.pair.now) ((10 ∷ [])) c.in_err-write_pair.ensures.bytes)
+pub returns-in_err-write_superior-in-Some-clause-bytes : goal.returns-in_err-write_superior-in-Some-clause-bytes
+returns-in_err-write_superior-in-Some-clause-bytes g c =
+    let p = err_from_is_err_and c.from_residual.result c.from_residual.ensures.1 in
+    rw p.1
+    (subst (λ (o : Option PairRef). Cuts (g.S.Sink.written c.args.sink.now) (g.S.Sink.written c.write_superior.new.sink) (slot_text (line pair_text) (option_map pair_of o)))
+    (sym c.in-Some.is) (cut_first _ _ (pair_text (pair_of c.in-Some.pair)) (10 ∷ []) c.in_err-write_superior-in-Some.ensures.bytes))
 
-pub returns-clause-bytes : goal.returns-clause-bytes
-returns-clause-bytes g c = then_all _ _ _ _ (pair_text c.args.pair.now) ((10 ∷ [])) c.in_ok-write_pair.ensures.bytes (c.write_all.ensures.bytes)
+pub returns-in_ok-write_superior-in-Some-clause-bytes : goal.returns-in_ok-write_superior-in-Some-clause-bytes
+returns-in_ok-write_superior-in-Some-clause-bytes g c =
+    subst
+    (λ (o : Option PairRef).
+    WritesAll (g.S.Sink.written c.args.sink.now) (g.S.Sink.written c.write_all.new.sink) c.write_all.result (slot_text (line pair_text) (option_map pair_of o)))
+    (sym c.in-Some.is) (then_all _ _ _ _ (pair_text (pair_of c.in-Some.pair)) (10 ∷ []) c.in_ok-write_superior-in-Some.ensures.bytes c.write_all.ensures.bytes)

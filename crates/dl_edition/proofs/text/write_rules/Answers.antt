@@ -1,32 +1,29 @@
-use Rattle.std.proofs.Common.{◌∙◌, Bor, ap, sym, arith}
-use Rattle.std.specs.Prelude.{Option}
-use Rattle.std.specs.Option.{option_copied}
+use Rattle.std.proofs.Common.{◌∙◌, arith}
 use Rattle.std.proofs.lemmas.Result.{err_from_is_err_and}
-use Rattle.dl_theory.specs.declared.rule.Rule.{Rule}
 use Rattle.dl_print.specs.Text.{rule_text, line}
-use Rattle.dl_print.proofs.Writes.{cut_line, line_more}
-use Rattle.dl_edition.proofs.Writing.{stands_at, never_past}
+use Rattle.dl_edition.proofs.Writing.{slot_cut, slot_more, slots_done}
 use Rattle.dl_edition.proofs.text.write_rules.Goals as goal
 
-pub returns-in_err-write_rule_line-in-Some-clause-bytes : goal.returns-in_err-write_rule_line-in-Some-clause-bytes
-returns-in_err-write_rule_line-in-Some-clause-bytes g c =
+pub returns-in_err-write_rule_line-clause-bytes : goal.returns-in_err-write_rule_line-clause-bytes
+returns-in_err-write_rule_line-clause-bytes g c =
+    let N = c.args.net.now in
     let p = err_from_is_err_and c.from_residual.result c.from_residual.ensures.1 in
-    let cut = c.in_err-write_rule_line-in-Some.ensures.bytes in
     rw p.1
-    (cut_line (line rule_text) c.args.net.now.theory.rules c.loop-at.at c.in-Some.rule.now _ _ _ cut.0 (omega (arith, c.loop-at-test.true, c.rules_len-at-end.ensures))
-    (stands_at c.args.net.now.theory.rules c.loop-at.at c.in-Some.rule.now (ap (λ (o : Option (Bor Rule)). option_copied o) (sym c.in-Some.is) ∙ c.rule.ensures))
-    c.loop-at.invariant.bytes cut.1 cut.2)
+    (slot_cut (line rule_text) N.theory.rules N.rules c.requires.rules c.loop-number.number (c.rule.result)
+    (omega (arith, c.loop-number-test.true, c.rule_numbers-number-end.ensures)) c.rule.ensures _ _ _ c.loop-number.invariant.bytes c.in_err-write_rule_line.ensures.bytes)
 
-pub unreachable-requires : goal.unreachable-requires
-unreachable-requires g c =
-    never_past c.args.net.now.theory.rules c.loop-at.at (omega (arith, c.loop-at-test.true, c.rules_len-at-end.ensures))
-    (ap (λ (o : Option (Bor Rule)). option_copied o) (sym c.in-None.is) ∙ c.rule.ensures)
+pub loop-number-preserved : goal.loop-number-preserved
+loop-number-preserved g c =
+    let N = c.args.net.now in
+    record {
+      bytes = slot_more (line rule_text) N.theory.rules N.rules c.requires.rules c.loop-number.number (c.rule.result)
+          (omega (arith, c.loop-number-test.true, c.rule_numbers-number-end.ensures)) c.rule.ensures _ _ _ c.loop-number.invariant.bytes c.in_ok-write_rule_line.ensures.bytes;
+      faults = c.in_ok-write_rule_line.ensures.cause ∙ c.loop-number.invariant.faults;
+      name = c.write_rule_line.ensures.name ∙ c.loop-number.invariant.name;
+    }
 
-pub loop-at-preserved : goal.loop-at-preserved
-loop-at-preserved g c = record {
-  bytes = line_more (line rule_text) c.args.net.now.theory.rules c.loop-at.at c.in-Some.rule.now _ _ _ (omega (arith, c.loop-at-test.true, c.rules_len-at-end.ensures))
-      (stands_at c.args.net.now.theory.rules c.loop-at.at c.in-Some.rule.now (ap (λ (o : Option (Bor Rule)). option_copied o) (sym c.in-Some.is) ∙ c.rule.ensures))
-      c.loop-at.invariant.bytes c.in_ok-write_rule_line-in-Some.ensures.bytes;
-  faults = c.in_ok-write_rule_line-in-Some.ensures.cause ∙ c.loop-at.invariant.faults;
-  name = c.write_rule_line.ensures.name ∙ c.loop-at.invariant.name;
-}
+pub returns-clause-bytes : goal.returns-clause-bytes
+returns-clause-bytes g c =
+    let N = c.args.net.now in
+    slots_done (line rule_text) N.theory.rules N.rules c.requires.rules c.loop-number.number _ _
+    (omega (arith, c.loop-number-test.false, c.rule_numbers-number-end.ensures)) c.loop-number.invariant.bytes

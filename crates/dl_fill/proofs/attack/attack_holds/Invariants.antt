@@ -2,7 +2,7 @@ use Rattle.std.proofs.Common.{◌≡◌, ◌-◌, true, length, drop}
 use Rattle.std.specs.List.{list_any}
 use Rattle.dl_lit.specs.declared.literal.Family.TheVariants.{Definite}
 use Rattle.dl_marks.specs.Marks.{marked}
-use Rattle.dl_net.specs.Numbers.{attackers_row, literal_at}
+use Rattle.dl_graph.specs.Numbers.{attackers_row, literal_at}
 use Rattle.dl_fill.specs.Before.{tag_of, attack_holds}
 use Rattle.dl_fill.proofs.attack.attack_holds.Given as goal
 

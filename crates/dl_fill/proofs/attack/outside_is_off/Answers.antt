@@ -1,8 +1,8 @@
 use Rattle.std.proofs.Common.{◌&&◌, false, arith, sym, ◌∙◌}
 use Rattle.std.specs.Prelude.{not}
 use Rattle.dl_marks.specs.Marks.{marked}
-use Rattle.dl_net.specs.Numbers.{back}
-use Rattle.dl_net.specs.declared.link.Link.TheVariants.{Uses}
+use Rattle.dl_graph.specs.Numbers.{back}
+use Rattle.dl_graph.specs.declared.link.Link.TheVariants.{Uses}
 use Rattle.dl_fill.specs.Before.{tag_of, is_inside}
 use Rattle.dl_fill.proofs.Reading.{any_goes, any_stops, any_ends}
 use Rattle.dl_fill.proofs.Everywhere.{body_stays}

@@ -1,7 +1,7 @@
 use Rattle.std.proofs.Common.{◌||◌, true, arith, sym, ◌∙◌}
 use Rattle.dl_marks.specs.Marks.{marked}
-use Rattle.dl_net.specs.Numbers.{back}
-use Rattle.dl_net.specs.declared.link.Link.TheVariants.{Uses}
+use Rattle.dl_graph.specs.Numbers.{back}
+use Rattle.dl_graph.specs.declared.link.Link.TheVariants.{Uses}
 use Rattle.dl_fill.specs.Before.{tag_of, is_inside}
 use Rattle.dl_fill.proofs.Reading.{all_goes, all_stops, all_ends}
 use Rattle.dl_fill.proofs.Everywhere.{body_stands}

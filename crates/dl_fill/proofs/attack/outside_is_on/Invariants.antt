@@ -1,8 +1,8 @@
 use Rattle.std.proofs.Common.{◌≡◌, ◌-◌, ◌≤◌, ◌||◌, true, length, drop}
 use Rattle.std.specs.List.{list_all}
 use Rattle.dl_marks.specs.Marks.{marked}
-use Rattle.dl_net.specs.Numbers.{back}
-use Rattle.dl_net.specs.declared.link.Link.TheVariants.{Uses}
+use Rattle.dl_graph.specs.Numbers.{back}
+use Rattle.dl_graph.specs.declared.link.Link.TheVariants.{Uses}
 use Rattle.dl_fill.specs.Before.{tag_of, is_inside, before_of, outside_is_on}
 use Rattle.dl_fill.proofs.attack.outside_is_on.Given as goal
 

@@ -1,6 +1,6 @@
 use Rattle.std.proofs.Common.{length, arith, ap, ◌∙◌, get_or, ◌/◌}
-use Rattle.dl_net.specs.Numbers.{next}
-use Rattle.dl_net.specs.declared.link.Link.TheVariants.{Same}
+use Rattle.dl_graph.specs.Numbers.{next}
+use Rattle.dl_graph.specs.declared.link.Link.TheVariants.{Same}
 use Rattle.dl_fill.specs.Wires.{through}
 use Rattle.dl_fill.specs.declared.wire.Wire.{Wire}
 use Rattle.dl_fill.specs.Pruned.{Asking}

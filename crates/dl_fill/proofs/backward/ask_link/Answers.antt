@@ -1,6 +1,6 @@
 use Rattle.std.proofs.Common.{◌≡◌, ℕ, ◌+◌, ◌*◌, ◌<◌, List, length, arith, ap, ◌∙◌, sym, subst, get_or}
-use Rattle.dl_net.specs.Counting.{times}
-use Rattle.dl_net.specs.Numbers.{next}
+use Rattle.dl_graph.specs.Counting.{times}
+use Rattle.dl_graph.specs.Numbers.{next}
 use Rattle.dl_fill.specs.Wires.{through}
 use Rattle.dl_fill.specs.Pruned.{Asking}
 use Rattle.dl_fill.proofs.Hits.{made_inside}

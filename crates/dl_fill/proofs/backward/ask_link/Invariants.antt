@@ -1,6 +1,6 @@
 use Rattle.std.proofs.Common.{◌≡◌, length, take}
 use Rattle.std.specs.List.{fold}
-use Rattle.dl_net.specs.Numbers.{next}
+use Rattle.dl_graph.specs.Numbers.{next}
 use Rattle.dl_fill.specs.Pruned.{serve}
 use Rattle.dl_fill.specs.Wires.{through}
 use Rattle.dl_fill.proofs.backward.ask_link.Given as goal

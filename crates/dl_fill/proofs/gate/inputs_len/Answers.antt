@@ -1,5 +1,5 @@
 use Rattle.std.proofs.Common.{arith}
-use Rattle.dl_net.specs.declared.link.Link.TheVariants.{Same}
+use Rattle.dl_graph.specs.declared.link.Link.TheVariants.{Same}
 use Rattle.dl_fill.specs.declared.wire.Wire.{Wire}
 use Rattle.dl_fill.specs.Before.{is_inside}
 use Rattle.dl_fill.proofs.Begun.{inputs_come, inputs_stay}

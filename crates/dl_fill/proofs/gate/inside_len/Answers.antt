@@ -1,7 +1,7 @@
 use Rattle.std.proofs.Common.{ℕ, Bool, List, ◌+◌, arith, sym, ap, ◌∙◌, length}
 use Rattle.std.specs.Prelude.{filter}
-use Rattle.dl_net.specs.Numbers.{back}
-use Rattle.dl_net.specs.declared.link.Link.TheVariants.{Uses}
+use Rattle.dl_graph.specs.Numbers.{back}
+use Rattle.dl_graph.specs.declared.link.Link.TheVariants.{Uses}
 use Rattle.dl_fill.specs.Before.{is_inside}
 use Rattle.dl_fill.specs.Prepared.{one_if}
 use Rattle.dl_fill.proofs.Everywhere.{body_whole}

@@ -1,6 +1,6 @@
 use Rattle.std.proofs.Common.{arith, take}
 use Rattle.std.specs.List.{fold, flat_map}
-use Rattle.dl_net.specs.declared.link.Link.TheVariants.{Same}
+use Rattle.dl_graph.specs.declared.link.Link.TheVariants.{Same}
 use Rattle.dl_fill.specs.Counters.{hit}
 use Rattle.dl_fill.specs.Wires.{edges_by}
 use Rattle.dl_fill.proofs.Waiting.{made_is, waits_is, length-made_more}

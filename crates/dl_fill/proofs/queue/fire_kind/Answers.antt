@@ -1,6 +1,6 @@
 use Rattle.std.proofs.Common.{ℕ, List, ap, subst, ◌∙◌, ◌<◌}
 use Rattle.std.specs.List.{fold}
-use Rattle.dl_net.specs.Counting.{times}
+use Rattle.dl_graph.specs.Counting.{times}
 use Rattle.dl_fill.specs.Counters.{hit}
 use Rattle.dl_fill.proofs.Spanning.{edges_spanned}
 use Rattle.dl_fill.proofs.queue.fire_kind.Goals as goal

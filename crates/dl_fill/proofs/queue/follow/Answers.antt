@@ -1,7 +1,7 @@
 use Rattle.std.proofs.Common.{◌≡◌, ℕ, ◌+◌, ◌*◌, ◌<◌, List, length, take, arith, sym, subst, get_or}
 use Rattle.std.specs.List.{fold}
-use Rattle.dl_net.specs.Counting.{times}
-use Rattle.dl_net.specs.Numbers.{next}
+use Rattle.dl_graph.specs.Counting.{times}
+use Rattle.dl_graph.specs.Numbers.{next}
 use Rattle.dl_fill.specs.Wires.{through}
 use Rattle.dl_fill.specs.Counters.{hit}
 use Rattle.dl_fill.proofs.Waiting.{length-made_more}

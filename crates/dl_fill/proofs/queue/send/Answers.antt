@@ -1,7 +1,7 @@
 use Rattle.std.proofs.Common.{ℕ, ◌<◌, length, subst}
-use Rattle.dl_net.specs.Counting.{times}
-use Rattle.dl_net.specs.Numbers.{next}
-use Rattle.dl_net.specs.declared.link.Link.{Link}
+use Rattle.dl_graph.specs.Counting.{times}
+use Rattle.dl_graph.specs.Numbers.{next}
+use Rattle.dl_graph.specs.declared.link.Link.{Link}
 use Rattle.dl_fill.specs.Wires.{through}
 use Rattle.dl_fill.proofs.queue.send.Goals as goal
 

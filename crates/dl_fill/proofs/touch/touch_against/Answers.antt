@@ -1,6 +1,6 @@
 use Rattle.std.proofs.Common.{ℕ, List, sym, subst, inl, inr, ◌∙◌, ◌<◌}
-use Rattle.dl_net.specs.Counting.{times}
-use Rattle.dl_net.specs.Numbers.{heads, attackers_row, literal_at}
+use Rattle.dl_graph.specs.Counting.{times}
+use Rattle.dl_graph.specs.Numbers.{heads, attackers_row, literal_at}
 use Rattle.dl_fill.proofs.Touching.{one_more, all_at, grows_twice}
 use Rattle.dl_fill.proofs.touch.touch_against.Goals as goal
 

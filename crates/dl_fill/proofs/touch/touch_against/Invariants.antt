@@ -1,6 +1,6 @@
 use Rattle.std.proofs.Common.{ℕ, ◌-◌, ◌<◌, length, take}
-use Rattle.dl_net.specs.Counting.{times}
-use Rattle.dl_net.specs.Numbers.{heads, literal_at, attackers_row}
+use Rattle.dl_graph.specs.Counting.{times}
+use Rattle.dl_graph.specs.Numbers.{heads, literal_at, attackers_row}
 use Rattle.dl_fill.specs.Touched.{Grows}
 use Rattle.dl_fill.proofs.touch.touch_against.Given as goal
 

@@ -1,6 +1,6 @@
 use Rattle.std.proofs.Common.{ℕ, List, arith, sym, subst, inl, inr, ◌∙◌, ◌<◌}
-use Rattle.dl_net.specs.Counting.{times}
-use Rattle.dl_net.specs.Numbers.{heads}
+use Rattle.dl_graph.specs.Counting.{times}
+use Rattle.dl_graph.specs.Numbers.{heads}
 use Rattle.dl_fill.proofs.Touching.{heads_inside, heads_few, stands_at, within_at, one_more, all_at, put_grows, put_has, grows_twice}
 use Rattle.dl_fill.proofs.touch.touch_heads.Goals as goal
 
@@ -12,7 +12,7 @@ put-requires c =
 pub overflow_add-at : goal.overflow_add-at
 overflow_add-at c =
     let lt = within_at (heads c.args.net.now c.args.number) c.loop-rule.at c.in-Some.rule (sym c.heads.ensures ∙ c.in-Some.is) in
-    omega (arith, lt, heads_few c.args.net.now c.args.number, c.rules_len-rules.ensures, c.rules_len-rules.type_inv)
+    omega (arith, lt, heads_few c.args.net.now c.args.number, c.rule_numbers-rules.ensures, c.rule_numbers-rules.type_inv)
 
 pub loop-rule-smaller : goal.loop-rule-smaller
 loop-rule-smaller c =

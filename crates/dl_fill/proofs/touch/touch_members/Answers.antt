@@ -1,6 +1,6 @@
 use Rattle.std.proofs.Common.{ℕ, List, arith, sym, subst, inl, inr, ◌∙◌, ◌<◌}
-use Rattle.dl_net.specs.Counting.{times}
-use Rattle.dl_net.specs.Numbers.{heads, attackers_row, literal_at}
+use Rattle.dl_graph.specs.Counting.{times}
+use Rattle.dl_graph.specs.Numbers.{heads, attackers_row, literal_at}
 use Rattle.dl_fill.specs.Touched.{Touches}
 use Rattle.dl_fill.proofs.Touching.{within_at, one_more, all_at}
 use Rattle.dl_fill.proofs.touch.touch_members.Goals as goal

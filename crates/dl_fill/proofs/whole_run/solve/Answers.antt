@@ -3,7 +3,7 @@ use Rattle.dl_fill.specs.Before.{before_of, is_inside}
 use Rattle.dl_fill.specs.Wires.{edges, inputs}
 use Rattle.dl_fill.proofs.Inside.{edges_inside}
 use Rattle.dl_fill.proofs.Begun.{fires_size}
-use Rattle.dl_net.specs.Counting.{times}
+use Rattle.dl_graph.specs.Counting.{times}
 use Rattle.dl_fill.proofs.Starting.{length-places, lits_apart}
 use Rattle.dl_fill.proofs.Solving.{region_few, idle_waits, area_fits, all_begun}
 use Rattle.dl_fill.proofs.whole_run.solve.Goals as goal

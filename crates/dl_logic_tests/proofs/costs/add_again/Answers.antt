@@ -3,7 +3,7 @@ use Rattle.dl_theory.specs.declared.edit.Edit.{Edit}
 use Rattle.dl_theory.specs.Lists.{TheoryLists}
 use Rattle.dl_theory.specs.Listings.{Mentions}
 use Rattle.dl_update.specs.Bound.{IsWithinCone}
-use Rattle.dl_logic_tests.specs.Costs.{two_rules, rule_again}
+use Rattle.dl_logic_tests.specs.Costs.{rule_again}
 use Rattle.dl_logic_tests.proofs.Bare.{none_for_refusal}
 use Rattle.dl_logic_tests.proofs.costs.add_again.Goals as goal
 

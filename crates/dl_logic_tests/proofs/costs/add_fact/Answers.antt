@@ -3,7 +3,7 @@ use Rattle.dl_theory.specs.declared.edit.Edit.{Edit}
 use Rattle.dl_theory.specs.Lists.{TheoryLists}
 use Rattle.dl_theory.specs.Listings.{Mentions}
 use Rattle.dl_update.specs.Bound.{IsWithinCone}
-use Rattle.dl_logic_tests.specs.Costs.{two_rules, fact_a}
+use Rattle.dl_logic_tests.specs.Costs.{fact_a}
 use Rattle.dl_logic_tests.proofs.Bare.{few_for_fact}
 use Rattle.dl_logic_tests.proofs.costs.add_fact.Goals as goal
 

@@ -2,7 +2,7 @@ use Rattle.std.proofs.Common.{subst}
 use Rattle.dl_theory.specs.declared.edit.Edit.{Edit}
 use Rattle.dl_theory.specs.Lists.{TheoryLists}
 use Rattle.dl_update.specs.Bound.{IsWithinCone}
-use Rattle.dl_logic_tests.specs.Costs.{two_rules, pair_apart}
+use Rattle.dl_logic_tests.specs.Costs.{pair_apart}
 use Rattle.dl_logic_tests.proofs.Bare.{none_for_pair}
 use Rattle.dl_logic_tests.proofs.costs.add_pair.Goals as goal
 

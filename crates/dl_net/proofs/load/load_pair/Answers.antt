@@ -5,24 +5,24 @@ use Rattle.dl_net.proofs.AboveLemmas.{lowers_none, lowers_joined, uppers_none, u
 use Rattle.dl_net.proofs.load.load_pair.Goals as goal
 
 pub returns-then-not-meet-clause-lowers : goal.returns-then-not-meet-clause-lowers
-returns-then-not-meet-clause-lowers c = λ T p r h F e.
-    e ∙ lowers_none T c.args.names.now.literals c.args.index.now.lines c.len-count.ensures.distinct c.len-count.ensures.paired r.named r.are h.distinct p
-    c.args.upper c.args.lower h.upper_within h.lower_within h.upper_label h.lower_label c.meet.result c.meet.ensures c.if-not-meet.true F
+returns-then-not-meet-clause-lowers c = λ N p are pair F e.
+    e ∙ lowers_none N c.args.names.now.literals c.args.index.now.lines are c.len-count.ensures.distinct c.len-count.ensures.paired p
+    c.args.upper c.args.lower pair c.meet.result c.meet.ensures c.if-not-meet.true F
 
 pub returns-then-not-meet-clause-uppers : goal.returns-then-not-meet-clause-uppers
-returns-then-not-meet-clause-uppers c = λ T p r h F e.
-    e ∙ uppers_none T c.args.names.now.literals c.args.index.now.lines c.len-count.ensures.distinct c.len-count.ensures.paired r.named r.are h.distinct p
-    c.args.upper c.args.lower h.upper_within h.lower_within h.upper_label h.lower_label c.meet.result c.meet.ensures c.if-not-meet.true F
+returns-then-not-meet-clause-uppers c = λ N p are pair F e.
+    e ∙ uppers_none N c.args.names.now.literals c.args.index.now.lines are c.len-count.ensures.distinct c.len-count.ensures.paired p
+    c.args.upper c.args.lower pair c.meet.result c.meet.ensures c.if-not-meet.true F
 
 pub returns-clause-lowers : goal.returns-clause-lowers
 returns-clause-lowers c =
     let u : ℕ = c.args.upper in
     let l : ℕ = c.args.lower in
     on_ok_weaker c.append_link.result
-    (λ put T p r h F e.
+    (λ put N p are pair F e.
     put ∙ ap (λ (xs : List (List ℕ)). set xs u (list_of xs u ++ l ∷ [])) e
-    ∙ lowers_joined T c.args.names.now.literals c.args.index.now.lines c.len-count.ensures.distinct c.len-count.ensures.paired r.named r.are h.distinct p
-    u l h.upper_within h.lower_within h.upper_label h.lower_label c.meet.result c.meet.ensures c.if-not-meet.false F)
+    ∙ lowers_joined N c.args.names.now.literals c.args.index.now.lines are c.len-count.ensures.distinct c.len-count.ensures.paired p
+    u l pair c.meet.result c.meet.ensures c.if-not-meet.false F)
     c.append_link.ensures.lowers
 
 pub returns-clause-uppers : goal.returns-clause-uppers
@@ -30,8 +30,8 @@ returns-clause-uppers c =
     let u : ℕ = c.args.upper in
     let l : ℕ = c.args.lower in
     on_ok_weaker c.append_link.result
-    (λ put T p r h F e.
+    (λ put N p are pair F e.
     put ∙ ap (λ (xs : List (List ℕ)). set xs l (list_of xs l ++ u ∷ [])) e
-    ∙ uppers_joined T c.args.names.now.literals c.args.index.now.lines c.len-count.ensures.distinct c.len-count.ensures.paired r.named r.are h.distinct p
-    u l h.upper_within h.lower_within h.upper_label h.lower_label c.meet.result c.meet.ensures c.if-not-meet.false F)
+    ∙ uppers_joined N c.args.names.now.literals c.args.index.now.lines are c.len-count.ensures.distinct c.len-count.ensures.paired p
+    u l pair c.meet.result c.meet.ensures c.if-not-meet.false F)
     c.append_link.ensures.uppers

@@ -1,6 +1,6 @@
 use Rattle.std.proofs.Common.{ℕ, ◌≤◌, sym, subst}
 use Rattle.dl_rules.specs.Lines.{Line, IsWithin}
-use Rattle.dl_net.proofs.AboveLemmas.{line_within}
+use Rattle.dl_graph.proofs.LineLemmas.{line_within}
 use Rattle.dl_net.proofs.load.room_for_rule.Goals as goal
 
 pub reserve-requires : goal.reserve-requires

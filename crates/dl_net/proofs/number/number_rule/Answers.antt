@@ -4,10 +4,10 @@ use Rattle.std.proofs.lemmas.Result.{IfOk-weaker}
 use Rattle.dl_lit.specs.declared.literal.Literal.{Literal}
 use Rattle.dl_lit.specs.Names.{Numbering}
 use Rattle.dl_names.specs.Paired.{IsNear, Grows, number_in}
-use Rattle.dl_net.specs.Named.{HasLiterals, line_in}
+use Rattle.dl_graph.specs.Named.{HasLiterals, line_in}
 use Rattle.dl_names.proofs.NameLemmas.{Grows-trans, Grows-weaker, Grows-keeps, near_head, near_tail, ok_from}
 use Rattle.dl_net.proofs.NetLemmas.{number_kept}
-use Rattle.dl_net.proofs.AboveLemmas.{numbers_within}
+use Rattle.dl_graph.proofs.LineLemmas.{numbers_within}
 use Rattle.dl_net.proofs.number.number_rule.Goals as goal
 
 grown_by : (q : Literal) (body xs a b c : List Literal) → xs ≡ body → Grows (IsNear (q ∷ [])) a b → Grows (IsNear xs) b c → Grows (IsNear (q ∷ body)) a c

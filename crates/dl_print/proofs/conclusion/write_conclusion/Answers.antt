@@ -11,4 +11,4 @@ returns-in_err-write_verdict-clause-bytes g c =
     rw p.1 (cut_first _ _ (verdict_text c.args.verdict c.args.family) (literal_text (literal_of c.args.literal)) c.in_err-write_verdict.ensures.bytes)
 
 pub returns-clause-bytes : goal.returns-clause-bytes
-returns-clause-bytes g c = then_all _ _ _ _ (verdict_text c.args.verdict c.args.family) (literal_text (literal_of c.args.literal)) c.in_ok-write_verdict.ensures.bytes c.write_borrowed.ensures.bytes
+returns-clause-bytes g c = then_all _ _ _ _ (verdict_text c.args.verdict c.args.family) (literal_text (literal_of c.args.literal)) c.in_ok-write_verdict.ensures.bytes c.write_literal_ref.ensures.bytes

@@ -2,8 +2,8 @@ use Rattle.std.proofs.Common.{[], ◌∷◌, List, sym, ◌∙◌}
 use Rattle.std.specs.Prelude.{Contains}
 use Rattle.dl_lit.specs.declared.literal.Literal.{Literal}
 use Rattle.dl_lit.specs.Names.{with_both}
-use Rattle.dl_net.specs.Named.{IsPaired, IsNear, Grows}
-use Rattle.dl_net.proofs.NameLemmas.{both_grows, paired_closed, Grows-none, Grows-weaker, by_result, found_at}
+use Rattle.dl_graph.specs.Named.{IsPaired, IsNear, Grows}
+use Rattle.dl_names.proofs.NameLemmas.{both_grows, paired_closed, Grows-none, Grows-weaker, by_result, found_at}
 use Rattle.dl_update.specs.Drafts.{IsNew}
 use Rattle.dl_update.proofs.News.{both_paired, near_there, near_new, on_ok}
 use Rattle.dl_update.proofs.places.collect.Goals as goal

@@ -3,8 +3,8 @@ use Rattle.std.specs.Prelude.{Contains}
 use Rattle.std.proofs.lemmas.List.{take_more, take_all}
 use Rattle.dl_base.proofs.Members.{only}
 use Rattle.dl_lit.specs.declared.literal.Literal.{Literal}
-use Rattle.dl_net.specs.Named.{IsNear, Grows}
-use Rattle.dl_net.proofs.NameLemmas.{Grows-trans, Grows-weaker, Grows-keeps}
+use Rattle.dl_graph.specs.Named.{IsNear, Grows}
+use Rattle.dl_names.proofs.NameLemmas.{Grows-trans, Grows-weaker, Grows-keeps}
 use Rattle.dl_update.specs.Drafts.{IsNew}
 use Rattle.dl_update.proofs.News.{new_more, near_parts}
 use Rattle.dl_update.proofs.places.collect_all.Goals as goal

@@ -1,7 +1,7 @@
 use Rattle.std.proofs.Common.{take}
 use Rattle.std.specs.Prelude.{Contains}
 use Rattle.dl_lit.specs.declared.literal.Literal.{Literal}
-use Rattle.dl_net.specs.Named.{IsPaired, Grows}
+use Rattle.dl_graph.specs.Named.{IsPaired, Grows}
 use Rattle.dl_update.specs.Drafts.{IsNew}
 use Rattle.dl_update.proofs.places.collect_all.Given as goal
 

@@ -2,8 +2,8 @@ use Rattle.std.proofs.Common.{[], ◌∷◌, List, inl, inr, sym, subst}
 use Rattle.std.specs.Prelude.{Contains}
 use Rattle.std.proofs.lemmas.List.Elements.{Contains-append_left, Contains-append_right}
 use Rattle.dl_lit.specs.declared.literal.Literal.{Literal}
-use Rattle.dl_net.specs.Named.{Grows}
-use Rattle.dl_net.proofs.NameLemmas.{Grows-trans, Grows-weaker, Grows-keeps}
+use Rattle.dl_graph.specs.Named.{Grows}
+use Rattle.dl_names.proofs.NameLemmas.{Grows-trans, Grows-weaker, Grows-keeps}
 use Rattle.dl_update.specs.Drafts.{IsNew}
 use Rattle.dl_update.proofs.News.{new_more, near_parts, on_ok}
 use Rattle.dl_update.proofs.places.collect_rule.Goals as goal

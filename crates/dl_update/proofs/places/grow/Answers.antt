@@ -1,6 +1,6 @@
 use Rattle.std.proofs.Common.{arith}
 use Rattle.dl_net.specs.Edited.{edit_literals}
-use Rattle.dl_net.specs.Named.{IsNear}
+use Rattle.dl_graph.specs.Named.{IsNear}
 use Rattle.dl_update.proofs.Bounds.{new_steps}
 use Rattle.dl_update.proofs.Growth.{right_longer, right_grown}
 use Rattle.dl_update.proofs.News.{enough_names}

@@ -1,6 +1,6 @@
 use Rattle.std.proofs.Common.{refl, sym, arith, true≢false}
 use Rattle.dl_lit.specs.declared.literal.Family.TheVariants.{Definite, Blocking, Propagating, Support}
-use Rattle.dl_net.specs.Numbers.{NetLists}
+use Rattle.dl_graph.specs.Numbers.{NetLists}
 use Rattle.dl_marks.specs.Marks.{Marking}
 use Rattle.dl_fill.specs.Families.{IsFilledBy}
 use Rattle.dl_fill.specs.Filled.{IsRight}

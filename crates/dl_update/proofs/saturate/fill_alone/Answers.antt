@@ -4,6 +4,6 @@ use Rattle.dl_update.proofs.saturate.fill_alone.Goals as goal
 pub fill-requires-clause-room : goal.fill-requires-clause-room
 fill-requires-clause-room g c = record {
   width = c.in_ok-reserve.ensures.width ∙ c.make-room.ensures.width;
-  rules = omega (arith, c.rules_len.ensures, c.in_ok-reserve.ensures.rules);
+  rules = omega (arith, c.rule_numbers.ensures, c.in_ok-reserve.ensures.rules);
   names = omega (arith, c.names.ensures.len, c.in_ok-reserve.ensures.names);
 }

@@ -1,5 +1,5 @@
 use Rattle.std.proofs.Common.{◌≡◌, ℕ, ◌<◌, ◌+◌, ◌++◌, ◌∷◌, List, [], true, arith, get_or, set, sym, ap, subst, length}
-use Rattle.dl_net.specs.Counting.{times}
+use Rattle.dl_graph.specs.Counting.{times}
 use Rattle.dl_fill.specs.Cells.{CellLists}
 use Rattle.dl_fill.specs.Counters.{CounterLists, IsKept, waiting}
 use Rattle.dl_fill.proofs.Kept.{set_kept, fired_kept}

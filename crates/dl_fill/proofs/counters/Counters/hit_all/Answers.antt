@@ -1,6 +1,6 @@
 use Rattle.std.proofs.Common.{◌≡◌, ◌<◌, ◌++◌, ◌∙◌, ℕ, Bool, List, length, get_or, take, sym, ap, subst, arith, length-append}
 use Rattle.std.specs.List.{fold}
-use Rattle.dl_net.specs.Counting.{times}
+use Rattle.dl_graph.specs.Counting.{times}
 use Rattle.dl_fill.specs.Cells.{CellLists, counted_down, come_down}
 use Rattle.dl_fill.specs.Counters.{CounterLists, IsKept, hit, chosen}
 use Rattle.dl_fill.proofs.Times.{times-get_or}

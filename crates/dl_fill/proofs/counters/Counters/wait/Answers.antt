@@ -1,5 +1,5 @@
 use Rattle.std.proofs.Common.{◌≡◌, ◌⊎◌, ◌<◌, ◌+◌, length, sym, subst}
-use Rattle.dl_net.specs.Counting.{times}
+use Rattle.dl_graph.specs.Counting.{times}
 use Rattle.dl_fill.specs.Cells.{CellLists}
 use Rattle.dl_fill.specs.Counters.{CounterLists, IsKept, waiting}
 use Rattle.dl_fill.proofs.Kept.{waits_kept}

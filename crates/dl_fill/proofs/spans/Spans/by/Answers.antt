@@ -1,6 +1,6 @@
 use Rattle.std.proofs.Common.{ap, sym, ◌∙◌}
 use Rattle.std.proofs.lemmas.Option.{get_or_from_slice_get}
-use Rattle.dl_net.specs.declared.link.Link.TheVariants.{Same}
+use Rattle.dl_graph.specs.declared.link.Link.TheVariants.{Same}
 use Rattle.dl_fill.specs.declared.wire.Wire.{Wire}
 use Rattle.dl_fill.specs.Spans.{side}
 use Rattle.dl_fill.proofs.Spanning.{none_spanned}

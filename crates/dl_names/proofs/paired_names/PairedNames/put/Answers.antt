@@ -16,8 +16,8 @@ new_is : (ps : List Literal) (q : Literal) (put : Option ℕ) (k : ℕ) → put 
     → ¬ Contains (pairs_of ps) q
 new_is ps q put k e h = pairs_absent ps q (subst (λ (o : Option ℕ). IfSome o (λ n. list_any (same_atom q) ps ≡ false)) e h)
 
-pub invariant_of-self-in-Some : goal.invariant_of-self-in-Some
-invariant_of-self-in-Some c =
+pub invariant_of-self-2 : goal.invariant_of-self-2
+invariant_of-self-2 c =
     let ps : List Literal = c.self.inside.pairs in
     let q : Literal = c.args.literal.now in
     let none : ¬ Contains (pairs_of ps) q = new_is ps q c.in_ok-put.field-0 c.in-Some.place c.in-Some.is c.in_ok-put.ensures.new in
@@ -29,21 +29,21 @@ invariant_of-self-in-Some c =
       few = omega (arith, ap length added, length-append ps (q ∷ []), c.len.ensures, c.if-len-ge-PAIR_LIMIT.false);
     }
 
-pub returns-in-Some-clause-absent : goal.returns-in-Some-clause-absent
-returns-in-Some-clause-absent c =
+pub returns-clause-absent : goal.returns-clause-absent
+returns-clause-absent c =
     subst (λ (n : Numbering). ¬ Contains n.literals c.args.literal.now) c.self.view_is
     (new_is c.self.inside.pairs c.args.literal.now c.in_ok-put.field-0 c.in-Some.place c.in-Some.is c.in_ok-put.ensures.new)
 
-pub returns-in-Some-clause-added : goal.returns-in-Some-clause-added
-returns-in-Some-clause-added c =
+pub returns-clause-added : goal.returns-clause-added
+returns-clause-added c =
     let ps : List Literal = c.self.inside.pairs in
     let q : Literal = c.args.literal.now in
     added_pair ps c.put.new.self q
     (subst (λ (o : Option ℕ). IfSome o (λ n. c.put.new.self ≡ ps ++ q ∷ [])) c.in-Some.is c.in_ok-put.ensures.added)
     ∙ ap (λ (n : Numbering). n.literals ++ q ∷ complement q ∷ []) c.self.view_is
 
-pub returns-in-Some-clause-number : goal.returns-in-Some-clause-number
-returns-in-Some-clause-number c =
+pub returns-clause-number : goal.returns-clause-number
+returns-clause-number c =
     let ps : List Literal = c.self.inside.pairs in
     ap (λ k. 2 * k) (subst (λ (o : Option ℕ). IfSome o (λ n. n ≡ length ps)) c.in-Some.is c.in_ok-put.ensures.place)
     ∙ sym (pairs_len ps) ∙ ap (λ (n : Numbering). length n.literals) c.self.view_is

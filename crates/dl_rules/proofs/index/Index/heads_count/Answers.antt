@@ -1,27 +1,22 @@
-use Rattle.std.proofs.Common.{◌≡◌, ◌<◌, ◌≤◌, ℕ, List, length, sym, ap, subst, ◌∙◌, arith}
+use Rattle.std.proofs.Common.{◌≡◌, ◌≤◌, ℕ, List, length, sym, ap, subst, ◌∙◌, arith}
 use Rattle.std.specs.Prelude.{All, filter}
 use Rattle.dl_rows.specs.Rows.{places}
-use Rattle.dl_rows.specs.Tables.{list_at}
-use Rattle.dl_rules.specs.Lines.{IndexLists, kind_row, passes, line_at}
-use Rattle.dl_rules.proofs.PlaceLemmas.{kinds_are, heads_few, heads_there, have_places}
+use Rattle.dl_rules.specs.Lines.{IndexLists, IsThere, kind_row, passes, line_at}
+use Rattle.dl_rules.proofs.PlaceLemmas.{kinds_are, heads_few, heads_there}
 use Rattle.dl_rules.proofs.index.Index.heads_count.Goals as goal
 
 pub count-requires : goal.count-requires
 count-requires c =
-    subst (λ (xs : List ℕ). All (λ s. s < length c.self.inside.lines.items) xs) (sym c.row.ensures)
-    (subst (λ (k : ℕ). All (λ s. s < k) (list_at c.self.inside.heads c.args.number))
-    c.self.invariant.rules.as_long
-    (have_places c.self.invariant.rules
-    (list_at c.self.inside.heads c.args.number)
-    (heads_there c.self.invariant.rules c.args.number)))
+    subst (λ (xs : List ℕ). All (IsThere c.self.inside.lines.items) xs) (sym (c.row.ensures ∙ c.self.invariant.rules.by_head c.args.number))
+    (heads_there c.self.inside.lines.items c.args.number)
 
 pub returns-clause-value : goal.returns-clause-value
 returns-clause-value c =
     subst (λ (v : IndexLists). c.count.result ≡ length (places (kind_row c.args.strict) v.lines c.args.number)) c.self.view_is
     (c.count.ensures.value
-    ∙ ap (λ (xs : List ℕ). length (filter (λ s. passes c.args.strict (line_at c.self.inside.lines.items s).kind) xs)) c.row.ensures
-    ∙ kinds_are c.self.invariant.rules
-    c.args.strict c.args.number)
+    ∙ ap (λ (xs : List ℕ). length (filter (λ s. passes c.args.strict (line_at c.self.inside.lines.items s).kind) xs))
+    (c.row.ensures ∙ c.self.invariant.rules.by_head c.args.number)
+    ∙ ap length (kinds_are c.args.strict c.self.inside.lines.items c.args.number))
 
 pub returns-clause-few : goal.returns-clause-few
 returns-clause-few c =
@@ -29,6 +24,6 @@ returns-clause-few c =
     (omega (
       arith,
       c.count.ensures.few,
-      ap length c.row.ensures,
-      heads_few c.self.invariant.rules c.args.number,
+      ap length (c.row.ensures ∙ c.self.invariant.rules.by_head c.args.number),
+      heads_few c.self.inside.lines.items c.args.number,
     ))

@@ -1,6 +1,8 @@
-use Rattle.std.proofs.Common.{length, sym, ap, ◌∙◌, arith}
-use Rattle.dl_rules.specs.Lines.{no_line, uses_row}
-use Rattle.dl_rows.proofs.RowLemmas.{row_past, row_in}
+use Rattle.std.proofs.Common.{length, get_or, None, refl, sym, ap, ◌∙◌, arith}
+use Rattle.dl_rules.specs.Lines.{uses_row}
+use Rattle.dl_rules.proofs.PlaceLemmas.{row_at}
+use Rattle.dl_rules.proofs.ThereLemmas.{use_once}
+use Rattle.dl_rows.proofs.RowLemmas.{row_past}
 use Rattle.dl_rules.proofs.index.Index.width.Goals as goal
 
 pub returns-then-rule-len-clause-width : goal.returns-then-rule-len-clause-width
@@ -8,4 +10,4 @@ returns-then-rule-len-clause-width c = sym (ap length (row_past uses_row c.args.
 
 pub returns-clause-width : goal.returns-clause-width
 returns-clause-width c =
-    ap length c.each_once.ensures.numbers ∙ sym (ap length (row_in uses_row c.args.self.now.lines c.args.rule no_line (omega arith)))
+    ap length c.each_once.ensures.numbers ∙ sym (ap length (row_at uses_row c.args.self.now.lines c.args.rule None refl ∙ use_once (get_or c.args.self.now.lines c.args.rule None)))

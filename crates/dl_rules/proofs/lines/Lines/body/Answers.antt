@@ -1,11 +1,9 @@
-use Rattle.std.proofs.Common.{ap, ◌∙◌}
-use Rattle.dl_theory.specs.declared.rule.Kind.TheVariants.{Defeater}
-use Rattle.dl_rules.specs.Lines.{Line}
-use Rattle.dl_rules.proofs.LineLemmas.{in_bodies, item_is}
+use Rattle.std.proofs.Common.{◌∙◌}
+use Rattle.dl_rules.proofs.LineLemmas.{in_bodies, body_is}
 use Rattle.dl_rules.proofs.lines.Lines.body.Goals as goal
 
 pub at-requires : goal.at-requires
 at-requires c = in_bodies c.self.inside c.self.invariant c.args.self.now c.self.view_is c.args.rule c.requires
 
 pub returns : goal.returns
-returns c = c.as_slice.ensures ∙ c.at.ensures ∙ ap (λ (l : Line). l.body) (item_is c.self.inside c.self.invariant c.args.self.now c.self.view_is c.args.rule c.requires Defeater 0 c.at.result.now)
+returns c = c.as_slice.ensures ∙ body_is c.self.inside c.self.invariant c.args.self.now c.self.view_is c.args.rule c.requires c.at.result.now c.at.ensures

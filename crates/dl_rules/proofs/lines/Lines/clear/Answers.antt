@@ -1,19 +1,15 @@
 use Rattle.std.proofs.Common.{ℕ, List, set, ap, ◌∙◌}
-use Rattle.dl_rules.specs.Lines.{no_line}
-use Rattle.dl_rules.proofs.LineLemmas.{in_kinds, in_heads, in_bodies, items_set}
+use Rattle.dl_rules.proofs.LineLemmas.{in_slots, in_bodies, items_gone}
 use Rattle.dl_rules.proofs.lines.Lines.clear.Goals as goal
 
 pub write-requires : goal.write-requires
-write-requires c = in_kinds c.self.inside c.self.invariant c.args.self.now c.self.view_is c.args.rule c.requires
-
-pub write-requires-2 : goal.write-requires-2
-write-requires-2 c = in_heads c.self.inside c.self.invariant c.args.self.now c.self.view_is c.args.rule c.requires
+write-requires c = in_slots c.self.inside c.self.invariant c.args.self.now c.self.view_is c.args.rule c.requires
 
 pub replace-requires : goal.replace-requires
 replace-requires c = in_bodies c.self.inside c.self.invariant c.args.self.now c.self.view_is c.args.rule c.requires
 
 pub returns : goal.returns
 returns c =
-    items_set c.self.inside c.self.invariant c.args.self.now c.self.view_is c.args.rule c.requires no_line
-    c.write.new.self.items c.write-2.new.self.items c.replace.new.self.items c.write.ensures.items c.write-2.ensures.items
+    items_gone c.self.inside c.self.invariant c.args.self.now c.self.view_is c.args.rule
+    c.write.new.self.items c.replace.new.self.items c.write.ensures.items
     (c.replace.ensures.items ∙ ap (λ (b : List ℕ). set c.self.inside.bodies.items c.args.rule b) c.none.ensures)

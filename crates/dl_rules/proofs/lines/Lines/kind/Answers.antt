@@ -1,10 +1,11 @@
-use Rattle.std.proofs.Common.{[], ap, ◌∙◌}
-use Rattle.dl_rules.specs.Lines.{Line}
-use Rattle.dl_rules.proofs.LineLemmas.{in_kinds, item_is}
+use Rattle.std.proofs.Common.{None, get_or, sym, ap, ◌∙◌, true≢false}
+use Rattle.std.specs.Prelude.{is_some}
+use Rattle.dl_rules.proofs.ThereLemmas.{found_none, found_kind}
 use Rattle.dl_rules.proofs.lines.Lines.kind.Goals as goal
 
-pub at-requires : goal.at-requires
-at-requires c = in_kinds c.self.inside c.self.invariant c.args.self.now c.self.view_is c.args.rule c.requires
+pub unreachable-requires : goal.unreachable-requires
+unreachable-requires c =
+    true≢false (sym c.requires ∙ ap is_some (found_none (get_or c.args.self.now.items c.args.rule None) (sym c.in-None.is ∙ c.find.ensures)))
 
 pub returns : goal.returns
-returns c = c.at.ensures ∙ ap (λ (l : Line). l.kind) (item_is c.self.inside c.self.invariant c.args.self.now c.self.view_is c.args.rule c.requires c.at.result.now 0 [])
+returns c = found_kind (get_or c.args.self.now.items c.args.rule None) c.in-Some.kind (sym c.in-Some.is ∙ c.find.ensures)

@@ -4,9 +4,9 @@ use Rattle.dl_update.specs.Drafts.{DraftLists}
 use Rattle.dl_update.proofs.draft.Draft.share.Goals as goal
 
 pub share-requires-2 : goal.share-requires-2
-share-requires-2 g c = c.self.invariant.marks_frozen (ap (λ (d : DraftLists). d.frozen) c.self.view_is ∙ c.requires)
+share-requires-2 c = c.self.invariant.marks_frozen (ap (λ (d : DraftLists). d.frozen) c.self.view_is ∙ c.requires)
 
 pub returns-clause-unowned : goal.returns-clause-unowned
-returns-clause-unowned g c =
+returns-clause-unowned c =
     subst (λ (m : Marking). IsFrozen m) (sym c.in_ok-marks.ensures)
     (c.self.invariant.marks_frozen (ap (λ (d : DraftLists). d.frozen) c.self.view_is ∙ c.requires))

@@ -1,0 +1,9 @@
+pub mod Slots
+pub mod RowLemmas
+pub mod LabelLemmas
+pub mod UpperLemmas
+pub mod FindLemmas
+pub mod OccursLemmas
+pub mod LineLemmas
+pub mod ReadLemmas
+pub mod TableLemmas

@@ -1,0 +1,22 @@
+use Rattle.std.proofs.Common.{◌≡◌, length, ap, subst, ◌∙◌, arith}
+use Rattle.dl_rows.specs.Rows.{places}
+use Rattle.dl_graph.specs.Numbers.{NetLists, of_rule}
+use Rattle.dl_graph.specs.Named.{concluded_row}
+use Rattle.dl_graph.specs.KeptGraph.{graph_of}
+use Rattle.dl_graph.proofs.ReadLemmas.{kinds_read, concluders_few}
+use Rattle.dl_graph.proofs.graph.Graph.concluders_len.Goals as goal
+
+pub returns-clause-value : goal.returns-clause-value
+returns-clause-value c =
+    subst (λ (v : NetLists). c.heads_count.result ≡ length (places (of_rule (concluded_row v c.args.strict)) v.rules c.args.number)) c.self.view_is
+    (c.heads_count.ensures.value
+    ∙ ap length (kinds_read (graph_of c.self.inside) c.self.inside.index.now c.self.invariant.tables.index c.args.strict c.args.number))
+
+pub returns-clause-few : goal.returns-clause-few
+returns-clause-few c =
+    omega (
+      arith,
+      c.heads_count.ensures.value,
+      ap length (kinds_read (graph_of c.self.inside) c.self.inside.index.now c.self.invariant.tables.index c.args.strict c.args.number),
+      concluders_few (graph_of c.self.inside) c.self.invariant.formed c.self.invariant.numbered c.args.strict c.args.number,
+    )

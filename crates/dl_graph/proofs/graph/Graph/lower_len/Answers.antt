@@ -1,0 +1,11 @@
+use Rattle.std.proofs.Common.{◌≡◌, ℕ, List, length, ap, subst, ◌∙◌}
+use Rattle.dl_rows.specs.Rows.{row}
+use Rattle.dl_graph.specs.Numbers.{NetLists, of_rule, lowers_row}
+use Rattle.dl_graph.specs.KeptGraph.{graph_of}
+use Rattle.dl_graph.proofs.ReadLemmas.{lowers_read}
+use Rattle.dl_graph.proofs.graph.Graph.lower_len.Goals as goal
+
+pub returns : goal.returns
+returns c =
+    subst (λ (v : NetLists). c.lower_len.result ≡ length (row (of_rule (lowers_row v)) v.rules c.args.rule)) c.self.view_is
+    (c.lower_len.ensures ∙ ap (λ (xs : List ℕ). length xs) (lowers_read (graph_of c.self.inside) c.self.inside.index.now c.self.invariant.tables.index c.args.rule))

@@ -1,0 +1,10 @@
+pub mod Numbers
+pub use Rattle.dl_rows.specs.Counting
+pub use Rattle.dl_rows.specs.Rows
+pub use Rattle.dl_rows.specs.Region
+pub use Rattle.dl_rows.specs.There
+pub mod Above
+pub mod Named
+pub mod Tables
+pub mod Borrowed
+pub mod KeptGraph

@@ -1,0 +1,34 @@
+-- How the fields of a list of labels hold it.
+use Rattle.std.specs.Prelude.{◌≡◌, ℕ, ◌+◌, ◌<◌, Option, None, Some, true, List, [], map, get_or, length}
+use Rattle.dl_lists.specs.declared.rule_labels.Ready.{Ready}
+use Rattle.dl_lists.specs.declared.rule_labels.Ready.TheVariants.{Nothing, New, Again}
+use Rattle.dl_lists.specs.declared.rule_labels.RuleLabels.TheInside.{Inside}
+use Rattle.dl_base.specs.Paths.{IsDistinct}
+use Rattle.dl_lists.specs.Labels.{LabelLists}
+use Rattle.dl_lists.specs.Entries.{EntryLists, AreEntered}
+
+-- the name at an entry
+abbrev pub name_at : List (List ℕ) → ℕ → List ℕ
+name_at names e = get_or names e []
+
+abbrev pub ready_of : List (List ℕ) → ℕ → Ready → Option (List ℕ)
+ready_of names count Nothing = None
+ready_of names count New = Some (name_at names count)
+ready_of names count (Again entry) = Some (name_at names entry)
+
+abbrev pub labels_of : Inside → LabelLists
+labels_of a = record {
+  labels = map (name_at a.names.keys) a.entries.entries;
+  ready = ready_of a.names.keys a.entries.count a.ready;
+}
+
+-- there is room for what is prepared, and a new name stands behind those of the entries
+abbrev pub HasRoom : EntryLists → ℕ → Ready → Type 0
+HasRoom entries names Nothing = names ≡ entries.count
+HasRoom entries names New = (names ≡ entries.count + 1) × (0 < entries.spare)
+HasRoom entries names (Again entry) = (names ≡ entries.count) × (0 < entries.spare) × (entry < entries.count) × (entries.apart ≡ true)
+
+pub record IsKeptLabels (a : Inside) : Type 0 where
+  pub distinct : IsDistinct a.names.keys
+  pub entered : AreEntered a.entries.entries a.entries.count
+  pub room : HasRoom a.entries (length a.names.keys) a.ready

@@ -1,0 +1,10 @@
+pub mod Last
+pub mod Labels
+pub mod Facts
+pub mod Pairs
+pub mod Entries
+pub mod KeptSlots
+pub mod KeptEntries
+pub mod KeptLabels
+pub mod KeptFacts
+pub mod KeptPairs

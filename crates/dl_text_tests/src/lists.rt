@@ -1,0 +1,250 @@
+//! Labels, facts and pairs by numbers that never move.
+
+ghost use Rattle.std.specs.Prelude.{◌<◌};
+
+use dl_lists::{FactNumbers, PairNumbers, RuleLabels};
+use dl_lit::{Name, name_set};
+use dl_rows::Table;
+use dl_sup::Link;
+use dl_theory::insert_label;
+use std::alloc::Global;
+use std::process::Abort;
+
+/// The name that a text spells.
+fn name_of(rt: &impl Abort, alloc: Global, text: &str) -> Name {
+    Name::make(alloc, text.as_bytes()).expect(rt, "a name")
+}
+
+#[test]
+fn a_label_is_found_at_its_last_number(rt: HostRuntime) {
+    let bird = name_of(&rt, rt.alloc(), "bird");
+    let penguin = name_of(&rt, rt.alloc(), "penguin");
+    let mut labels = RuleLabels::make(rt.alloc());
+    assert!(rt;
+        labels
+            .add(bird.copy().expect(&rt, "room"))
+            .expect(&rt, "room")
+    );
+    assert!(rt;
+        labels
+            .add(penguin.copy().expect(&rt, "room"))
+            .expect(&rt, "room")
+    );
+    assert!(rt;
+        !labels
+            .add(bird.copy().expect(&rt, "room"))
+            .expect(&rt, "room")
+    );
+    assert_eq!(rt; labels.find(&bird), Some(0));
+    labels.prepare(&bird).expect(&rt, "room");
+    labels.put();
+    assert_eq!(rt; labels.len(), 3);
+    assert_eq!(rt; labels.find(&bird), Some(2));
+    assert_eq!(rt; labels.find(&penguin), Some(1));
+    assert!(rt; *labels.label(0) == bird);
+    assert!(rt; *labels.label(2) == bird);
+    let copy = labels.copy().expect(&rt, "room");
+    assert_eq!(rt; copy.find(&bird), Some(2));
+}
+
+#[test]
+fn names_are_taken_over_as_labels(rt: HostRuntime) {
+    let bird = name_of(&rt, rt.alloc(), "bird");
+    let penguin = name_of(&rt, rt.alloc(), "penguin");
+    let mut names = name_set(rt.alloc());
+    for name in [&bird, &penguin] {
+        let name = name.copy().expect(&rt, "room");
+        insert_label(&mut names, name).expect(&rt, "room");
+    }
+    assert!(rt; names.len() < 100);
+    let mut labels = RuleLabels::of(names);
+    assert_eq!(rt; labels.len(), 2);
+    assert_eq!(rt; labels.find(&penguin), Some(1));
+    labels.prepare(&bird).expect(&rt, "room");
+    labels.put();
+    assert_eq!(rt; labels.find(&bird), Some(2));
+}
+
+#[test]
+fn a_forgotten_label_is_not_there(rt: HostRuntime) {
+    let bird = name_of(&rt, rt.alloc(), "bird");
+    let mut labels = RuleLabels::make(rt.alloc());
+    labels.prepare(&bird).expect(&rt, "room");
+    labels.forget();
+    assert_eq!(rt; labels.len(), 0);
+    assert!(rt; labels.find(&bird).is_none());
+    assert!(rt; labels.add(bird).expect(&rt, "room"));
+    assert_eq!(rt; labels.len(), 1);
+}
+
+/// A literal becomes a fact, where it is none; says its number.
+fn fact_of(rt: &impl Abort, facts: &mut FactNumbers, literal: usize) -> usize
+    requires { literal < 100 }
+{
+    facts.prepare_places().expect(rt, "room");
+    facts.reserve(100).expect(rt, "room");
+    match facts.place(literal) {
+        Some(number) => number,
+        None => {
+            facts.put(literal);
+            facts.len() - 1
+        }
+    }
+}
+
+/// A fact goes, where there is one with the number.
+fn drop_fact(facts: &mut FactNumbers, number: usize) {
+    if number < facts.len() {
+        facts.drop_at(number);
+    }
+}
+
+#[test]
+fn a_fact_that_comes_again_has_another_number(rt: HostRuntime) {
+    let mut facts = FactNumbers::make(rt.alloc());
+    assert_eq!(rt; fact_of(&rt, &mut facts, 7), 0);
+    assert_eq!(rt; fact_of(&rt, &mut facts, 3), 1);
+    assert_eq!(rt; fact_of(&rt, &mut facts, 7), 0);
+    assert_eq!(rt; facts.len(), 2);
+    drop_fact(&mut facts, 0);
+    assert_eq!(rt; facts.live(), 1);
+    assert_eq!(rt; fact_of(&rt, &mut facts, 7), 2);
+    expect_facts(&rt, &facts);
+    expect_facts(&rt, &facts.copy().expect(&rt, "room"));
+}
+
+#[test]
+fn literals_are_taken_over_as_facts(rt: HostRuntime) {
+    let mut literals = Table::make(rt.alloc());
+    literals.reserve().expect(&rt, "room");
+    literals.push(7);
+    let mut facts = FactNumbers::of(literals, 8);
+    assert_eq!(rt; facts.live(), 1);
+    assert_eq!(rt; facts.at(0), Some(7));
+    assert_eq!(rt; fact_of(&rt, &mut facts, 7), 0);
+    assert_eq!(rt; fact_of(&rt, &mut facts, 9), 1);
+}
+
+/// The first fact has gone, and came again behind another.
+fn expect_facts(rt: &impl Abort, facts: &FactNumbers) {
+    assert_eq!(rt; facts.live(), 2);
+    assert_eq!(rt; facts.at(0), None);
+    assert_eq!(rt; facts.at(1), Some(3));
+    assert_eq!(rt; facts.at(2), Some(7));
+    assert_eq!(rt; facts.at(3), None);
+}
+
+/// A pair goes last; says its number.
+fn pair_of(rt: &impl Abort, pairs: &mut PairNumbers, upper: usize, lower: usize) -> usize {
+    let number = pairs.len();
+    pairs.prepare(Link { upper, lower }).expect(rt, "room");
+    pairs.put();
+    number
+}
+
+/// The number of a pair, found by its rules.
+fn place_of(rt: &impl Abort, pairs: &mut PairNumbers, upper: usize, lower: usize) -> Option<usize> {
+    pairs.prepare_places().expect(rt, "room");
+    pairs.place(Link { upper, lower })
+}
+
+/// A pair goes, where there is one with the number.
+fn drop_pair(pairs: &mut PairNumbers, number: usize) {
+    if number < pairs.len() {
+        pairs.drop_at(number);
+    }
+}
+
+/// All pairs of a rule go.
+fn drop_rule(rt: &impl Abort, pairs: &mut PairNumbers, rule: usize) {
+    pairs.prepare_places().expect(rt, "room");
+    pairs.drop_rule(rule);
+}
+
+#[test]
+fn all_pairs_of_a_rule_go(rt: HostRuntime) {
+    let mut pairs = PairNumbers::make(rt.alloc());
+    assert_eq!(rt; pair_of(&rt, &mut pairs, 1, 2), 0);
+    assert_eq!(rt; pair_of(&rt, &mut pairs, 2, 3), 1);
+    pairs.prepare_places().expect(&rt, "room");
+    assert_eq!(rt; pair_of(&rt, &mut pairs, 3, 1), 2);
+    assert_eq!(rt; pair_of(&rt, &mut pairs, 2, 2), 3);
+    drop_rule(&rt, &mut pairs, 2);
+    assert_eq!(rt; pairs.live(), 1);
+    assert_eq!(rt; pairs.len(), 4);
+    assert_eq!(rt; pairs.at(0), None);
+    assert_eq!(rt; pairs.at(1), None);
+    assert_eq!(rt; pairs.at(2), Some(Link { upper: 3, lower: 1 }));
+    assert_eq!(rt; pairs.at(3), None);
+    assert_eq!(rt; place_of(&rt, &mut pairs, 3, 1), Some(2));
+    assert_eq!(rt; place_of(&rt, &mut pairs, 1, 3), None);
+    drop_rule(&rt, &mut pairs, 9);
+    assert_eq!(rt; pairs.live(), 1);
+}
+
+#[test]
+fn a_pair_that_comes_again_has_another_number(rt: HostRuntime) {
+    let mut pairs = PairNumbers::make(rt.alloc());
+    assert_eq!(rt; pair_of(&rt, &mut pairs, 1, 2), 0);
+    pairs.prepare_places().expect(&rt, "room");
+    assert_eq!(rt; pairs.len(), 1);
+    drop_pair(&mut pairs, 0);
+    assert_eq!(rt; place_of(&rt, &mut pairs, 1, 2), None);
+    assert_eq!(rt; pair_of(&rt, &mut pairs, 1, 2), 1);
+    assert_eq!(rt; place_of(&rt, &mut pairs, 1, 2), Some(1));
+    pairs
+        .prepare(Link { upper: 4, lower: 5 })
+        .expect(&rt, "room");
+    pairs.forget();
+    assert_eq!(rt; place_of(&rt, &mut pairs, 4, 5), None);
+    let copy = pairs.copy().expect(&rt, "room");
+    assert_eq!(rt; copy.len(), 2);
+    assert_eq!(rt; copy.at(1), Some(Link { upper: 1, lower: 2 }));
+}
+
+#[test]
+fn pairs_are_taken_over(rt: HostRuntime) {
+    let first = Link { upper: 3, lower: 1 };
+    let second = Link { upper: 2, lower: 3 };
+    let mut pairs = PairNumbers::of(rt.alloc(), &[first, second]).expect(&rt, "room");
+    assert_eq!(rt; pairs.live(), 2);
+    assert_eq!(rt; pairs.at(0), Some(first));
+    assert_eq!(rt; place_of(&rt, &mut pairs, 2, 3), Some(1));
+    drop_rule(&rt, &mut pairs, 1);
+    assert_eq!(rt; pairs.at(0), None);
+    assert_eq!(rt; pairs.at(1), Some(second));
+}
+
+#[test]
+fn a_rule_has_a_number_of_32_bits(rt: HostRuntime) {
+    let wide = Link {
+        upper: 4_294_967_295,
+        lower: 1,
+    };
+    assert!(rt; PairNumbers::of(rt.alloc(), &[wide]).is_err());
+    let mut pairs = PairNumbers::make(rt.alloc());
+    assert!(rt;
+        pairs
+            .prepare(Link {
+                upper: 4_294_967_295,
+                lower: 1
+            })
+            .is_err()
+    );
+    assert!(rt;
+        pairs
+            .prepare(Link {
+                upper: 1,
+                lower: 4_294_967_295
+            })
+            .is_err()
+    );
+    assert!(rt;
+        pairs
+            .prepare(Link {
+                upper: 1,
+                lower: 4_294_967_294
+            })
+            .is_ok()
+    );
+}
