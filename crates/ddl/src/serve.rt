@@ -17,13 +17,12 @@ use crate::print::hand_on;
 use crate::sessions::{note_ends, settle_sessions, status_after};
 use crate::status::Status;
 use crate::whole::Stop;
-use dl_board::Board;
 use dl_io::{Failed, House, OpenStop, Sink};
 use dl_journal::{
     Named, history_is_spelled, named_all, open_streams, settle_streams, write_served,
 };
 use dl_session::End;
-use dl_sessions::{Hall, Served};
+use dl_sessions::{Board, Hall, Served};
 use dl_theory::Theory;
 use std::alloc::Global;
 use std::marker::Brand;

@@ -5,7 +5,7 @@
 //! own calls stand in order, each with the answer that it got. An edition that was handed out needs no turn: who holds one
 //! asks it while others call.
 //!
-//! Nothing is said of how long a call waits.
+//! Nothing is said of how long a call waits. The type of the board comes with the desk.
 #![tactic(auto)]
 
 mod calls;
@@ -13,3 +13,4 @@ mod desk;
 
 pub use desk::Desk;
 pub use dl_base::Memory;
+pub use dl_board::Board;

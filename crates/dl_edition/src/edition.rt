@@ -11,7 +11,9 @@ ghost use Rattle.dl_theory.specs.Verdicts.{IsVerdict, Fits};
 ghost use Rattle.dl_conclusions.specs.Conclusions.{AreConclusions};
 ghost use Rattle.dl_edition.specs.Editions.{line_count};
 
+use crate::listing::{Listing, keep, no_listing, reading};
 use crate::text::write_net;
+use counted_slot::Counted;
 use dl_base::Memory;
 use dl_conclusions::{Conclusions, order_of, ordered_conclusions, verdict_of};
 use dl_derive::certify;
@@ -23,21 +25,22 @@ use dl_theory::{Answer, Verdict};
 use std::alloc::Global;
 use std::marker::Model;
 
-/// A frozen net, marks that are right for it, and the order of its literals.
+/// A frozen net and marks that are right for it.
 pub(crate) struct Edition {
+    alloc: Global,
     net: Net,
     marks: Marks,
-    /// The numbers of the literals that the theory mentions, in the order of the literals. It is made once, so that no list
-    /// of conclusions sorts.
-    order: Vec<usize>,
+    /// The order of the literals. The first list of conclusions makes it for the later ones, so that a publication sorts nothing.
+    listing: Counted<Option<Listing>>,
 }
 
 impl Drop for Edition {
     fn drop(self) {
         let Edition {
+            alloc: _,
             net: _,
             marks: _,
-            order: _,
+            listing: _,
         } = self;
     }
 }
@@ -55,14 +58,19 @@ impl Model for Edition {
 }
 
 impl Edition {
-    pub(crate) fn make(alloc: Global, net: Net, marks: Marks) -> Result<Edition, Memory>
+    pub(crate) fn make(alloc: Global, net: Net, marks: Marks) -> Edition
         requires frozen { IsTrue net.frozen }
         requires right { AreRight net.theory net.names (places marks) (stands marks) }
         requires unowned { IsFrozen marks }
-        ensures { IfOk result (λ edition. edition ≡ net.theory) }
+        ensures { result ≡ net.theory }
     {
-        let order = order_of(alloc, &net.graph())?;
-        Ok(Edition { net, marks, order })
+        let listing = no_listing(&net);
+        Edition {
+            alloc,
+            net,
+            marks,
+            listing,
+        }
     }
 
     pub(crate) fn verdict(&self, family: Family, literal: &Literal) -> Verdict
@@ -74,13 +82,7 @@ impl Edition {
     pub(crate) fn ask(&self, family: Family, literal: &Literal) -> Result<Answer, Memory>
         ensures { IfOk result (Fits self.now family literal.now) }
     {
-        certify(
-            *self.order.allocator(),
-            &self.net.graph(),
-            &self.marks,
-            family,
-            literal,
-        )
+        certify(self.alloc, &self.net.graph(), &self.marks, family, literal)
     }
 
     pub(crate) fn lines(&self) -> usize
@@ -103,12 +105,34 @@ impl Edition {
     pub(crate) fn conclusions(&self, family: Family) -> Result<Conclusions, Memory>
         ensures { IfOk result (AreConclusions self.now family) }
     {
-        ordered_conclusions(
-            *self.order.allocator(),
-            &self.net.graph(),
-            &self.marks,
-            family,
-            self.order.as_slice(),
-        )
+        match reading(&self.listing) {
+            None => self.sorted(family),
+            Some(claim) => {
+                // Nothing leaves here before the claim is given back.
+                let answer = match claim.get() {
+                    Some(listing) => ordered_conclusions(
+                        self.alloc,
+                        &self.net.graph(),
+                        &self.marks,
+                        family,
+                        listing.order.as_slice(),
+                    ),
+                    None => self.sorted(family),
+                };
+                claim.leave();
+                answer
+            }
+        }
+    }
+
+    /// The conclusions in an order that is made for them, and then kept for later ones.
+    fn sorted(&self, family: Family) -> Result<Conclusions, Memory>
+        ensures { IfOk result (AreConclusions self.now family) }
+    {
+        let net = self.net.graph();
+        let order = order_of(self.alloc, &net)?;
+        let answer = ordered_conclusions(self.alloc, &net, &self.marks, family, order.as_slice());
+        keep(&self.listing, order);
+        answer
     }
 }

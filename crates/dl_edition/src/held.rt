@@ -49,7 +49,7 @@ impl Model for Held {
 
 impl Held {
     /// The first holder of an edition, of a frozen net and marks that are right for it. `Memory` where there is none for
-    /// the order of the literals or for what is shared.
+    /// what is shared.
     pub fn make(alloc: Global, number: u64, net: Net, marks: Marks) -> Result<Held, Memory>
         requires frozen { IsTrue net.frozen }
         requires right { AreRight net.theory net.names (places marks) (stands marks) }
@@ -57,8 +57,7 @@ impl Held {
         ensures number { IfOk result (λ held. held.number ≡ number) }
         ensures theory { IfOk result (λ held. held.theory ≡ net.theory) }
     {
-        let edition = Edition::make(alloc, net, marks)?;
-        let edition = Arc::new(alloc, edition)?;
+        let edition = Arc::new(alloc, Edition::make(alloc, net, marks))?;
         Ok(Held { number, edition })
     }
 
@@ -110,7 +109,8 @@ impl Held {
         self.edition.write_text(sink)
     }
 
-    /// Each literal that the theory mentions, in order, with its verdict. `Memory` where there is none for the list.
+    /// Each literal that the theory mentions, in order, with its verdict. Who asks first puts the literals in order, for all who
+    /// hold the edition. `Memory` where there is none for the order or the list.
     pub fn conclusions(&self, family: Family) -> Result<Conclusions, Memory>
         ensures { IfOk result (AreConclusions self.now.theory family) }
     {

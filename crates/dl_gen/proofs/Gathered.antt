@@ -13,7 +13,8 @@ use Rattle.dl_conclusions.specs.declared.conclusion.Conclusion.{Conclusion}
 use Rattle.dl_conclusions.specs.Conclusions.{AreConclusions}
 use Rattle.dl_check.specs.declared.accepted.Accepted.{Accepted}
 use Rattle.dl_gen.specs.Survey.{accepted_in}
-use Rattle.dl_gen.specs.Answers.{IsAnswer, AreAnswers, verdict_of}
+use Rattle.dl_gen.specs.declared.families.Answers.{Answers}
+use Rattle.dl_gen.specs.Answers.{IsAnswer, AreAnswers, IsAnswered, AreAnswered, verdict_of}
 
 abbrev pub conclusion_of : Accepted → Conclusion
 conclusion_of a = record { literal = a.literal; verdict = a.verdict }
@@ -25,27 +26,36 @@ pub verdicts_of : (answers : List Accepted) → map verdict_of answers ≡ map (
 verdicts_of [] = refl
 verdicts_of (a ∷ answers) = ap (λ l. a.verdict ∷ l) (verdicts_of answers)
 
-module _ (T : TheoryLists) (f : Family) where
-  all_there : (cs : List Conclusion) (answers : List Accepted) → AllZip (λ c (r : Result Accepted Memory). IfOk r (IsAnswer T f c.literal)) cs (map (λ a. Ok a) answers)
-      → AreAnswers T f (map (λ c. c.literal) cs) answers
+module _ (T : TheoryLists) where
+  all_there : (cs : List Conclusion) (each : List Answers) → AllZip (λ c (r : Result Answers Memory). IfOk r (IsAnswered T c.literal)) cs (map (λ a. Ok a) each)
+      → AreAnswered T (map (λ c. c.literal) cs) each
   all_there [] [] h = tt
-  all_there [] (a ∷ answers) h = absurd h
+  all_there [] (a ∷ each) h = absurd h
   all_there (c ∷ cs) [] h = absurd h
-  all_there (c ∷ cs) (a ∷ answers) h = (h.0, all_there cs answers h.1)
+  all_there (c ∷ cs) (a ∷ each) h = (h.0, all_there cs each h.1)
 
   -- where each answer was there
-  pub gathered : (cs : List Conclusion) (rs : List (Result Accepted Memory)) (answers : List Accepted) → rs ≡ map (λ a. Ok a) answers
-      → AllZip (λ c r. IfOk r (IsAnswer T f c.literal)) cs rs → AreAnswers T f (map (λ c. c.literal) cs) answers
-  gathered cs rs answers same h =
-      all_there cs answers (subst (λ (l : List (Result Accepted Memory)). AllZip (λ c r. IfOk r (IsAnswer T f c.literal)) cs l) same h)
+  gathered : (cs : List Conclusion) (rs : List (Result Answers Memory)) (each : List Answers) → rs ≡ map (λ a. Ok a) each
+      → AllZip (λ c r. IfOk r (IsAnswered T c.literal)) cs rs → AreAnswered T (map (λ c. c.literal) cs) each
+  gathered cs rs each same h =
+      all_there cs each (subst (λ (l : List (Result Answers Memory)). AllZip (λ c r. IfOk r (IsAnswered T c.literal)) cs l) same h)
 
   -- and they were collected
-  pub all_gathered : (cs : List Conclusion) (rs : List (Result Accepted Memory)) (r : Result (Vec Accepted Global) Memory)
-      → AllZip (λ c r. IfOk r (IsAnswer T f c.literal)) cs rs
-      → MatchResult r (λ v. (answers : List Accepted) × (rs ≡ map Ok answers) × (v.items ≡ answers)) (λ e. Contains rs (Err e))
-      → IfOk r (λ v. AreAnswers T f (map (λ c. c.literal) cs) v.items)
-  all_gathered cs rs (Ok v) h m = subst (AreAnswers T f (map (λ c. c.literal) cs)) (sym m.2) (gathered cs rs m.0 m.1 h)
+  pub all_gathered : (cs : List Conclusion) (rs : List (Result Answers Memory)) (r : Result (Vec Answers Global) Memory)
+      → AllZip (λ c r. IfOk r (IsAnswered T c.literal)) cs rs
+      → MatchResult r (λ v. (each : List Answers) × (rs ≡ map Ok each) × (v.items ≡ each)) (λ e. Contains rs (Err e))
+      → IfOk r (λ v. AreAnswered T (map (λ c. c.literal) cs) v.items)
+  all_gathered cs rs (Ok v) h m = subst (AreAnswered T (map (λ c. c.literal) cs)) (sym m.2) (gathered cs rs m.0 m.1 h)
   all_gathered cs rs (Err e) h m = tt
+
+module _ (T : TheoryLists) (f : Family) where
+  -- those of one family
+  pub answers_in : (pick : Answers → Accepted) → ((q : Literal) (a : Answers) → IsAnswered T q a → IsAnswer T f q (pick a)) → (qs : List Literal) (each : List Answers)
+      → AreAnswered T qs each → AreAnswers T f qs (map pick each)
+  answers_in pick picked [] [] h = tt
+  answers_in pick picked [] (a ∷ each) h = absurd h
+  answers_in pick picked (q ∷ qs) [] h = absurd h
+  answers_in pick picked (q ∷ qs) (a ∷ each) h = (picked q a h.0, answers_in pick picked qs each h.1)
 
   pub answers_listed : (qs : List Literal) (answers : List Accepted) → AreAnswers T f qs answers → map (λ c. c.literal) (conclusions_of answers) ≡ qs
   answers_listed [] [] h = refl

@@ -1,5 +1,5 @@
 -- The calls of one seat, which are its board's whole history.
-use Rattle.std.proofs.Common.{◌≡◌, ℕ, ◌<◌, ◌-◌, ◌==◌, true, List, [], ◌∷◌, ◌++◌, flat_map, Option, Some, IsSome, length, drop, ap, sym, subst, refl, ◌∙◌, append_assoc, append-nil, arith}
+use Rattle.std.proofs.Common.{◌≡◌, ℕ, ◌<◌, ◌-◌, ◌==◌, true, List, [], ◌∷◌, ◌++◌, flat_map, Option, Some, IsSome, length, ap, sym, subst, refl, ◌∙◌, append_assoc, append-nil, arith}
 use Rattle.atomic_table.specs.Seated.{TableId}
 use Rattle.std.specs.Prelude.{All, remove, slice_get}
 use Rattle.std.proofs.lemmas.List.{map-append, length_push}
@@ -16,11 +16,14 @@ use Rattle.dl_calls.specs.declared.entry.Entry.{Entry}
 use Rattle.dl_calls.specs.Reasoner.{State, opening}
 use Rattle.dl_calls.specs.Histories.{next, after, after_all, state_after, IsLegal}
 use Rattle.dl_edition.specs.Offices.{SeatLists, MayCall, Stays, HasCalled, IsCall}
-use Rattle.dl_board.specs.Boards.{BoardLists}
+use Rattle.dl_desk.specs.Boards.{BoardLists}
 use Rattle.dl_gen.specs.declared.summary.Summary.{Summary}
 use Rattle.dl_gen.specs.Generator.{generated_theory, generated_calls, draw_each, draw_calls, draw_lists}
-use Rattle.dl_gen.specs.Running.{IsChange, HasMade, IsRun, EndsPublished, calls_of}
+use Rattle.dl_gen.specs.Running.{IsChange, HasMade, IsRun, IsGenerated, EndsPublished, calls_of}
 use Rattle.dl_gen.specs.Summary.{IsSummaryOf, IsSummary}
+use Rattle.dl_gen.specs.declared.replay.Replay.{Replay}
+use Rattle.dl_gen.specs.Replaying.{IsReplay, Replays}
+use Rattle.dl_gen.proofs.Replayed.{rest_calls}
 use Rattle.dl_gen.proofs.EachCall.{each_call}
 
 -- a call is one more of the seat's own
@@ -87,9 +90,6 @@ behind_first calls rest first e = ap (λ (l : List Call). remove l 0) e
 pub all_change : (seed size : ℕ) → All IsChange (remove (generated_calls seed size) 0)
 all_change seed size = each_call IsChange (λ size k x. tt) tt seed size
 
-rest_calls : (x y : Call) (l m : List Call) → x ∷ l ≡ y ∷ m → l ≡ m
-rest_calls x y l m e = ap (λ (calls : List Call). drop 1 calls) e
-
 -- Where the last call is a publication, the last edition is the draft.
 ends_published : (s : State) (history : List Entry) (calls : List Call) → calls_of history ≡ calls ++ Publish ∷ [] → EndsPublished (after_all s history)
 ends_published s [] [] e = absurd (cc)
@@ -117,13 +117,27 @@ last_edition s h =
     let place : length s.editions - 1 ≡ length h.before = omega (arith, ap length h.last, length_push h.before s.draft) in
     ap (λ n. slice_get s.editions n) place ∙ ap (λ l. slice_get l (length h.before)) h.last ∙ at_end h.before s.draft
 
--- the summary of a run of the calls of a number
-pub is_summary : (seed size : ℕ) (T : TheoryLists) (made : List Call) (board : BoardLists) (s : Summary) → T ≡ generated_theory seed size → IsRun T made board
-    → Enrol ∷ made ≡ generated_calls seed size → IsSummaryOf board.start board.history s → IsSummary seed size s
-is_summary seed size T made board s same run calls h =
-    record {
-      history = board.history;
-      legal = subst (λ (S : TheoryLists). IsLegal S board.history) same run.legal;
-      calls = run.calls ∙ calls;
-      comes_to = subst (λ (S : TheoryLists). IsSummaryOf S board.history s) (run.start ∙ same) h;
-    }
+-- a run of the calls of a number
+pub is_generated : (seed size : ℕ) (T : TheoryLists) (made : List Call) (board : BoardLists) → T ≡ generated_theory seed size → Enrol ∷ made ≡ generated_calls seed size
+    → IsRun T made board → IsGenerated seed size board
+is_generated seed size T made board same calls run = record {
+  start = run.start ∙ same;
+  legal = subst (λ (S : TheoryLists). IsLegal S board.history) (sym run.start) run.legal;
+  calls = run.calls ∙ calls;
+}
+
+-- its replay
+pub is_replay : (seed size : ℕ) (board : BoardLists) (r : Replay) → IsGenerated seed size board → Replays (generated_theory seed size) (generated_calls seed size) r
+    → IsReplay board.start board.history r
+is_replay seed size board r run h =
+    subst (λ (S : TheoryLists). IsReplay S board.history r) (sym run.start)
+    (h board.history (subst (λ (S : TheoryLists). IsLegal S board.history) run.start run.legal) run.calls)
+
+-- and its summary
+pub is_summary : (seed size : ℕ) (board : BoardLists) (s : Summary) → IsGenerated seed size board → IsSummaryOf board.start board.history s → IsSummary seed size s
+is_summary seed size board s run h = record {
+  history = board.history;
+  legal = subst (λ (S : TheoryLists). IsLegal S board.history) run.start run.legal;
+  calls = run.calls;
+  comes_to = subst (λ (S : TheoryLists). IsSummaryOf S board.history s) run.start h;
+}

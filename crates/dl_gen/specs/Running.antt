@@ -1,5 +1,5 @@
 -- Calls on the way to a summary.
-use Rattle.std.specs.Prelude.{◌≡◌, List, [], ◌∷◌, ◌++◌, None, map}
+use Rattle.std.specs.Prelude.{◌≡◌, ℕ, List, [], ◌∷◌, ◌++◌, None, map}
 use Rattle.dl_theory.specs.Lists.{TheoryLists}
 use Rattle.dl_calls.specs.declared.call.Call.{Call}
 use Rattle.dl_calls.specs.declared.call.Call.TheVariants.{Enrol, Edit, Publish}
@@ -7,7 +7,8 @@ use Rattle.dl_calls.specs.declared.entry.Entry.{Entry}
 use Rattle.dl_calls.specs.Reasoner.{State}
 use Rattle.dl_calls.specs.Histories.{IsLegal}
 use Rattle.dl_edition.specs.Offices.{SeatLists}
-use Rattle.dl_board.specs.Boards.{BoardLists}
+use Rattle.dl_desk.specs.Boards.{BoardLists}
+use Rattle.dl_gen.specs.Generator.{generated_theory, generated_calls}
 
 -- a call that changes the draft or the editions
 abbrev pub IsChange : Call → Type 0
@@ -31,6 +32,12 @@ pub record IsRun (T : TheoryLists) (made : List Call) (board : BoardLists) : Typ
   pub start : board.start ≡ T
   pub legal : IsLegal T board.history
   pub calls : calls_of board.history ≡ Enrol ∷ made
+
+-- from the theory of a number, one seat made its calls, and nobody made others
+pub record IsGenerated (seed size : ℕ) (board : BoardLists) : Type 0 where
+  pub start : board.start ≡ generated_theory seed size
+  pub legal : IsLegal board.start board.history
+  pub calls : calls_of board.history ≡ generated_calls seed size
 
 -- the last edition is the draft
 pub record EndsPublished (s : State) : Type 0 where

@@ -4,9 +4,10 @@ ghost use Rattle.std.specs.Prelude.{◌≡◌, IfOk, OnOk, map};
 ghost use Rattle.dl_theory.specs.Laws.{IsCoherent, IsConsistent, IsInclusive};
 ghost use Rattle.dl_check.specs.Checking.{StandsFor};
 ghost use Rattle.dl_gen.specs.Survey.{IsSurvey, AreNested};
-ghost use Rattle.dl_gen.specs.Answers.{IsAnswer, AreAnswers};
+ghost use Rattle.dl_gen.specs.Answers.{IsAnswer, IsAnswered, AreAnswered};
 
 use crate::counts::Survey;
+use crate::families::{Answers, Families};
 use dl_base::Memory;
 use dl_check::{Accepted, Checker};
 use dl_conclusions::Conclusion;
@@ -38,26 +39,42 @@ fn answer_to(
     }
 }
 
-/// The accepted answers to each literal in a family, in order.
-fn answers_in(
+/// The accepted answers to one literal, one in each family.
+fn answers_to(held: &Held, checker: &Checker, literal: &Literal) -> Result<Answers, Memory>
+    requires { StandsFor checker.now held.now.theory }
+    ensures { IfOk result (IsAnswered held.now.theory literal.now) }
+{
+    let definite = answer_to(held, checker, Family::Definite, literal)?;
+    let blocking = answer_to(held, checker, Family::Blocking, literal)?;
+    let propagating = answer_to(held, checker, Family::Propagating, literal)?;
+    let support = answer_to(held, checker, Family::Support, literal)?;
+    Ok(Answers {
+        definite,
+        blocking,
+        propagating,
+        support,
+    })
+}
+
+/// The accepted answers to each literal, in order. One pass asks in every family, so its threads end together only once.
+fn answers_of(
     rt: &(impl Threads + Sync),
     alloc: Global,
     held: &Held,
     checker: &Checker,
-    family: Family,
     literals: &[Conclusion],
-) -> Result<Vec<Accepted>, Memory>
+) -> Result<Vec<Answers>, Memory>
     requires { StandsFor checker.now held.now.theory }
-    ensures { IfOk result (λ answers. AreAnswers held.now.theory family (map (λ c. c.literal) literals.now) answers.items) }
+    ensures { IfOk result (λ each. AreAnswered held.now.theory (map (λ c. c.literal) literals.now) each.items) }
 {
     literals
         .par_iter()
         .with_min_len(PIECE)
         .map(
-            |conclusion: &Conclusion| -> Result<Accepted, Memory>
+            |conclusion: &Conclusion| -> Result<Answers, Memory>
                 requires { StandsFor checker.now held.now.theory }
-                ensures { IfOk result (IsAnswer held.entry.now.theory family conclusion.now.literal) }
-            { answer_to(held, checker, family, &conclusion.literal) },
+                ensures { IfOk result (IsAnswered held.entry.now.theory conclusion.now.literal) }
+            { answers_to(held, checker, &conclusion.literal) },
         )
         .collect(rt, alloc)?
 }
@@ -86,10 +103,8 @@ pub fn survey(
     let checker = Checker::make(alloc, theory)?;
     let literals = held.conclusions(Family::Definite)?;
     let list = literals.as_slice();
-    let definite = answers_in(rt, alloc, held, &checker, Family::Definite, list)?;
-    let blocking = answers_in(rt, alloc, held, &checker, Family::Blocking, list)?;
-    let propagating = answers_in(rt, alloc, held, &checker, Family::Propagating, list)?;
-    let support = answers_in(rt, alloc, held, &checker, Family::Support, list)?;
-    let survey = Survey::of(definite, blocking, propagating, support)?;
+    let each = answers_of(rt, alloc, held, &checker, list)?;
+    let families = Families::of(alloc, each)?;
+    let survey = families.survey()?;
     Ok(survey)
 }

@@ -1,6 +1,5 @@
 //! How many answers have which verdict.
 
-use dl_base::Memory;
 use dl_check::Accepted;
 use dl_theory::Verdict;
 
@@ -56,32 +55,5 @@ impl Counts {
             }
         }
         counts
-    }
-}
-
-impl Survey {
-    ghost use Rattle.std.specs.Prelude.{IfOk};
-    ghost use Rattle.dl_gen.specs.Answers.{IsSurveyOf};
-
-    /// The survey of accepted answers. `Memory` where there is none for their list.
-    pub(crate) fn of(
-        definite: Vec<Accepted>,
-        mut blocking: Vec<Accepted>,
-        mut propagating: Vec<Accepted>,
-        mut support: Vec<Accepted>,
-    ) -> Result<Survey, Memory>
-        ensures { IfOk result (IsSurveyOf definite.items blocking.items propagating.items support.items) }
-    {
-        let mut survey = Survey {
-            definite: Counts::of(definite.as_slice()),
-            blocking: Counts::of(blocking.as_slice()),
-            propagating: Counts::of(propagating.as_slice()),
-            support: Counts::of(support.as_slice()),
-            checked: definite,
-        };
-        survey.checked.append(&mut blocking)?;
-        survey.checked.append(&mut propagating)?;
-        survey.checked.append(&mut support)?;
-        Ok(survey)
     }
 }

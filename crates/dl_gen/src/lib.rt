@@ -12,6 +12,7 @@ mod atoms;
 mod calls;
 mod counts;
 mod draws;
+mod families;
 mod lists;
 mod load;
 mod names;

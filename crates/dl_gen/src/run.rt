@@ -4,10 +4,10 @@ ghost use Rattle.std.specs.Prelude.{◌≡◌, ◌-◌, ◌<◌, ◌≤◌, ◌�
 ghost use Rattle.dl_turn.specs.Views.{new_seat};
 ghost use Rattle.dl_calls.specs.Histories.{state_after};
 ghost use Rattle.dl_edition.specs.Offices.{MayCall};
-ghost use Rattle.dl_gen.specs.Generator.{generated_calls};
+ghost use Rattle.dl_gen.specs.Generator.{generated_theory, generated_calls};
 ghost use Rattle.dl_gen.specs.Summary.{IsSummary, IsSummaryOf};
-ghost use Rattle.dl_gen.specs.Replaying.{IsReplay};
-ghost use Rattle.dl_gen.specs.Running.{IsChange, HasMade, IsRun};
+ghost use Rattle.dl_gen.specs.Replaying.{IsReplay, Replays};
+ghost use Rattle.dl_gen.specs.Running.{IsChange, HasMade, IsRun, IsGenerated};
 
 use crate::ask::survey;
 use crate::calls::make_calls;
@@ -15,9 +15,8 @@ use crate::replay::Replay;
 use crate::summary::Summary;
 use crate::theory::make_theory;
 use dl_base::Memory;
-use dl_board::Board;
 use dl_calls::Call;
-use dl_desk::Desk;
+use dl_desk::{Board, Desk};
 use dl_edition::Office;
 use dl_theory::{Edit, EditStop, Theory};
 use dl_turn::Seat;
@@ -25,7 +24,7 @@ use std::alloc::Global;
 use std::marker::Brand;
 use std::sync::Wait;
 use std::sync::ledger::{Blank, Book, Ledger, Share};
-use std::thread::Threads;
+use std::thread::{Threads, join};
 
 /// Makes an edit. A refusal is an answer like any other.
 fn make_edit<L: Ledger, R: Wait>(
@@ -144,25 +143,6 @@ fn run_at<L: Ledger, R: Wait>(
     Ok(board)
 }
 
-/// The board of a theory after one seat was enrolled and made these calls.
-fn board_after<L: Ledger, R: Wait>(
-    rt: &R,
-    alloc: Global,
-    theory: &Theory,
-    calls: Vec<Call>,
-    blank: Blank,
-) -> Result<Board<L>, Memory>
-    requires name { blank.name ≡ L.name }
-    requires parts { blank.parts ≡ L.parts }
-    requires some { 0 < blank.parts }
-    requires calls { All IsChange calls.items }
-    ensures { IfOk result (IsRun theory.now calls.items) }
-{
-    let (book, share) = blank.open::<L>();
-    let (desk, seat) = opened(rt, alloc, theory, book)?;
-    run_at(rt, theory, desk, seat, share, calls)
-}
-
 /// The calls of a number behind the enrolment, which is not made as they are.
 fn changes(alloc: Global, seed: u64, size: u64) -> Result<Vec<Call>, Memory>
     requires { size ≤ 4096 }
@@ -172,6 +152,71 @@ fn changes(alloc: Global, seed: u64, size: u64) -> Result<Vec<Call>, Memory>
     let mut calls = make_calls(alloc, seed, size)?;
     calls.remove(0);
     Ok(calls)
+}
+
+/// The board after one seat made the calls of a number, from the theory of the same number on.
+fn board_of<L: Ledger, R: Wait>(
+    rt: &R,
+    alloc: Global,
+    seed: u64,
+    size: u64,
+    blank: Blank,
+) -> Result<Board<L>, Memory>
+    requires name { blank.name ≡ L.name }
+    requires parts { blank.parts ≡ L.parts }
+    requires some { 0 < blank.parts }
+    requires size { size ≤ 4096 }
+    ensures { IfOk result (IsGenerated seed size) }
+{
+    let theory = make_theory(alloc, seed, size)?;
+    let calls = changes(alloc, seed, size)?;
+    let (book, share) = blank.open::<L>();
+    let (desk, seat) = opened(rt, alloc, &theory, book)?;
+    let board = run_at(rt, &theory, desk, seat, share, calls)?;
+    Ok(board)
+}
+
+/// What the same calls come to on a theory alone.
+fn replay_of(alloc: Global, seed: u64, size: u64) -> Result<Replay, Memory>
+    requires { size ≤ 4096 }
+    ensures { IfOk result (Replays (generated_theory seed size) (generated_calls seed size)) }
+{
+    let theory = make_theory(alloc, seed, size)?;
+    let calls = make_calls(alloc, seed, size)?;
+    let replay = Replay::of(theory, calls)?;
+    Ok(replay)
+}
+
+/// Makes the calls of a number at a desk and, in a thread of their own, on a theory alone. The desk does not wait for a theory of which each
+/// drop costs the length.
+fn made_twice<L: Ledger, R: Threads + Wait + Sync>(
+    rt: &R,
+    alloc: Global,
+    seed: u64,
+    size: u64,
+    blank: Blank,
+) -> Result<(Board<L>, Replay), Memory>
+    requires name { blank.name ≡ L.name }
+    requires parts { blank.parts ≡ L.parts }
+    requires some { 0 < blank.parts }
+    requires size { size ≤ 4096 }
+    ensures board { IfOk result (λ made. IsGenerated seed size made.0) }
+    ensures replay { IfOk result (λ made. Replays (generated_theory seed size) (generated_calls seed size) made.1) }
+{
+    let (replay, board) = join(
+        rt,
+        move || -> Result<Replay, Memory>
+            requires { size ≤ 4096 }
+            ensures { IfOk result (Replays (generated_theory seed size) (generated_calls seed size)) }
+        { replay_of(alloc, seed, size) },
+        move || -> Result<Board<L>, Memory>
+            requires { (blank.name ≡ L.name) × (blank.parts ≡ L.parts) × (0 < blank.parts) × (size ≤ 4096) }
+            ensures { IfOk result (IsGenerated seed size) }
+        { board_of::<L, R>(rt, alloc, seed, size, blank) },
+    );
+    let replayed = replay?;
+    let made = board?;
+    Ok((made, replayed))
 }
 
 /// The summary of a board of which the last call was a publication.
@@ -214,10 +259,8 @@ fn summarize_with<L: Ledger, R: Threads + Wait + Sync>(
     requires size { size ≤ 4096 }
     ensures { IfOk result (IsSummary seed size) }
 {
-    let theory = make_theory(alloc, seed, size)?;
-    let calls = changes(alloc, seed, size)?;
-    let board = board_after::<L, R>(rt, alloc, &theory, calls, blank)?;
-    let replay = Replay::of(&board, theory)?;
+    let made = made_twice::<L, R>(rt, alloc, seed, size, blank)?;
+    let (board, replay) = made;
     let summary = summary_of(rt, alloc, &board, replay)?;
     Ok(summary)
 }

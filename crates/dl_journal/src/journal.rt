@@ -7,11 +7,11 @@ ghost use Rattle.dl_calls.specs.Spelled.{IsSpelled};
 ghost use Rattle.dl_calls.specs.Text.{journal_text};
 ghost use Rattle.dl_journal.specs.Journal.{end_words, end_line, ends_text, served_text};
 
-use dl_board::Board;
 use dl_calls::{entry_is_spelled, write_entry};
 use dl_io::{Failed, Sink, write_all};
 use dl_print::write_number;
 use dl_session::End;
+use dl_sessions::Board;
 use std::sync::ledger::Ledger;
 
 fn words_of(end: End) -> &'static [u8]

@@ -24,8 +24,8 @@ pub record IsDropping (rule : ℕ) (row : List ℕ) (upto : ℕ) (old new : List
   pub kept : (l : Link) (n s : ℕ) → HasNumber new l n → Contains (list_at before s) n → Contains (list_at after s) n
   pub counted : count + length (there new) ≡ length (there old)
 
-pub dropping_start : (rule : ℕ) (row : List ℕ) (old : List (Option Link)) (before : RowLists) → IsDropping rule row 0 old old before before 0
-dropping_start rule row old before = record {
+pub dropping_start : (rule : ℕ) (numbers : List ℕ) (old : List (Option Link)) (before : RowLists) → IsDropping rule numbers 0 old old before before 0
+dropping_start rule numbers old before = record {
   same = refl;
   fewer = λ l n h. h;
   gone = λ l k lt h. absurd (omega (arith, lt));

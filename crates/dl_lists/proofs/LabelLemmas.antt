@@ -1,20 +1,21 @@
 -- Labels by number, from the names at the entries of the numbers.
-use Rattle.std.proofs.Common.{◌≡◌, ℕ, ◌<◌, ◌≤◌, Bool, true, false, cond, Option, None, Some, List, [], ◌∷◌, ◌++◌, length, get_or, take, drop, map, refl, sym, ap, ◌∙◌, subst, arith, inl, inr}
+use Rattle.std.proofs.Common.{◌≡◌, ℕ, ◌+◌, ◌<◌, ◌≤◌, Bool, true, false, cond, Option, None, Some, List, [], ◌∷◌, ◌++◌, length, take, map, refl, sym, ap, ◌∙◌, subst, arith, inl, inr}
 use Rattle.std.specs.Prelude.{All, Contains, slice_get, option_map, IfNone}
 use Rattle.std.proofs.lemmas.Bool.{cases_lt}
 use Rattle.std.proofs.lemmas.Option.{slice_get-map}
-use Rattle.std.proofs.lemmas.List.{get_or_append_left, get_or-take, get_or_default, length-take-le, get_or_push, map_push, take-append-drop}
+use Rattle.std.proofs.lemmas.List.{get_or_append_left, get_or-take, get_or_default, get_or_push, map_push}
 use Rattle.std.proofs.lemmas.List.Elements.{All-contains, All-weaker, Contains-get_or}
 use Rattle.std.specs.List.{range_with_len}
 use Rattle.std.proofs.lemmas.List.FromFn.{fill_by_all}
 use Rattle.dl_base.specs.Paths.{IsDistinct}
-use Rattle.dl_base.proofs.Distinct.{distinct_left}
 use Rattle.dl_base.proofs.Members.{map_agree, Contains-mapped, mapped_from}
 use Rattle.dl_lists.specs.Last.{IsLast}
 use Rattle.dl_lists.specs.declared.rule_labels.Ready.{Ready}
 use Rattle.dl_lists.specs.declared.rule_labels.Ready.TheVariants.{Nothing, New, Again}
+use Rattle.dl_lists.specs.declared.rule_labels.RuleLabels.TheInside.{Inside}
 use Rattle.dl_lists.specs.Entries.{EntryLists, AreEntered}
-use Rattle.dl_lists.specs.KeptLabels.{name_at, ready_of, HasRoom}
+use Rattle.dl_lists.specs.Names.{NameLists, name_at}
+use Rattle.dl_lists.specs.KeptLabels.{ready_of, HasRoom, IsKeptLabels}
 use Rattle.dl_lists.proofs.LastLemmas.{get_contains}
 
 -- names behind those of the entries change no label
@@ -102,23 +103,30 @@ pub inserted_new : (keys more : List (List ℕ)) (l : List ℕ) (new : Bool) →
 inserted_new keys more l true e there absent = e
 inserted_new keys more l false e there absent = absurd (absent (there refl))
 
--- among distinct names the next one is not among those before it
-pub next_name : (xs : List (List ℕ)) (i : ℕ) (x : List ℕ) → IsDistinct xs → i < length xs → x ≡ get_or xs i x → ¬ Contains (take i xs) x
-next_name xs i x distinct lt is m =
-    let before : m.0 < i = omega (arith, m.1, length-take-le i xs (omega (arith, lt))) in
-    distinct m.0 i x before lt (sym (get_or-take i xs m.0 x before) ∙ m.2 ∙ is)
-
 -- ---- what is prepared
 
-pub nothing_ready : (names : List (List ℕ)) (count : ℕ) (r : Ready) → ready_of names count r ≡ None → r ≡ Nothing
+nothing_ready : (names : List (List ℕ)) (count : ℕ) (r : Ready) → ready_of names count r ≡ None → r ≡ Nothing
 nothing_ready names count Nothing e = refl
 nothing_ready names count New e = cc
 nothing_ready names count (Again entry) e = cc
 
-pub names_enough : (entries : EntryLists) (names : ℕ) (r : Ready) → HasRoom entries names r → entries.count ≤ names
+-- where nothing is prepared, each name is that of an entry
+pub none_prepared : (a : Inside) → IsKeptLabels a → ready_of a.names.keys a.entries.count a.ready ≡ None
+    → (a.ready ≡ Nothing) × (length a.names.keys ≡ a.entries.count)
+none_prepared a h none =
+    let nothing : a.ready ≡ Nothing = nothing_ready a.names.keys a.entries.count a.ready none in
+    (nothing, subst (λ (r : Ready). HasRoom a.entries a.names r) nothing h.room)
+
+pub names_enough : (entries : EntryLists) (names : NameLists) (r : Ready) → HasRoom entries names r → entries.count ≤ length names.keys
 names_enough entries names Nothing h = omega (arith, h)
 names_enough entries names New h = omega (arith, h.0)
 names_enough entries names (Again entry) h = omega (arith, h.0)
+
+-- names behind those of the entries are not shared
+pub names_cut : (entries : EntryLists) (names : NameLists) (r : Ready) → HasRoom entries names r → length names.keys ≤ entries.count + names.later
+names_cut entries names Nothing h = omega (arith, h)
+names_cut entries names New h = omega (arith, h.0, h.1)
+names_cut entries names (Again entry) h = omega (arith, h.0)
 
 pub if_none_more : (o : Option ℕ) {P Q : Type 0} → IfNone o P → (P → Q) → IfNone o Q
 if_none_more None h f = f h
@@ -126,9 +134,6 @@ if_none_more (Some n) h f = tt
 
 pub entered_is : (es fs : List ℕ) (count more : ℕ) → AreEntered es count → fs ≡ es → more ≡ count → AreEntered fs more
 entered_is es fs count more h e f = subst (λ (l : List ℕ). AreEntered l more) (sym e) (subst (λ (n : ℕ). AreEntered es n) (sym f) h)
-
-pub distinct_take : (xs : List (List ℕ)) (n : ℕ) → IsDistinct xs → IsDistinct (take n xs)
-distinct_take xs n h = distinct_left (take n xs) (drop n xs) (subst (λ (l : List (List ℕ)). IsDistinct l) (sym (take-append-drop n xs)) h)
 
 module _ (names : List (List ℕ)) (es : List ℕ) (count : ℕ) (h : AreEntered es count) (long : length names ≡ count) (l : List ℕ) where
   -- one more name and one more number that has it

@@ -1,15 +1,11 @@
 -- How the fields of a list of labels hold it.
-use Rattle.std.specs.Prelude.{◌≡◌, ℕ, ◌+◌, ◌<◌, Option, None, Some, true, List, [], map, get_or, length}
+use Rattle.std.specs.Prelude.{◌≡◌, ℕ, ◌+◌, ◌<◌, Option, None, Some, true, List, map, length}
 use Rattle.dl_lists.specs.declared.rule_labels.Ready.{Ready}
 use Rattle.dl_lists.specs.declared.rule_labels.Ready.TheVariants.{Nothing, New, Again}
 use Rattle.dl_lists.specs.declared.rule_labels.RuleLabels.TheInside.{Inside}
-use Rattle.dl_base.specs.Paths.{IsDistinct}
 use Rattle.dl_lists.specs.Labels.{LabelLists}
+use Rattle.dl_lists.specs.Names.{NameLists, name_at}
 use Rattle.dl_lists.specs.Entries.{EntryLists, AreEntered}
-
--- the name at an entry
-abbrev pub name_at : List (List ℕ) → ℕ → List ℕ
-name_at names e = get_or names e []
 
 abbrev pub ready_of : List (List ℕ) → ℕ → Ready → Option (List ℕ)
 ready_of names count Nothing = None
@@ -22,13 +18,13 @@ labels_of a = record {
   ready = ready_of a.names.keys a.entries.count a.ready;
 }
 
--- there is room for what is prepared, and a new name stands behind those of the entries
-abbrev pub HasRoom : EntryLists → ℕ → Ready → Type 0
-HasRoom entries names Nothing = names ≡ entries.count
-HasRoom entries names New = (names ≡ entries.count + 1) × (0 < entries.spare)
-HasRoom entries names (Again entry) = (names ≡ entries.count) × (0 < entries.spare) × (entry < entries.count) × (entries.apart ≡ true)
+-- there is room for what is prepared, and a new name stands behind those of the entries, and is not shared
+abbrev pub HasRoom : EntryLists → NameLists → Ready → Type 0
+HasRoom entries names Nothing = length names.keys ≡ entries.count
+HasRoom entries names New = (length names.keys ≡ entries.count + 1) × (0 < names.later) × (0 < entries.spare)
+HasRoom entries names (Again entry) =
+    (length names.keys ≡ entries.count) × (0 < entries.spare) × (entry < entries.count) × (entries.apart ≡ true)
 
 pub record IsKeptLabels (a : Inside) : Type 0 where
-  pub distinct : IsDistinct a.names.keys
   pub entered : AreEntered a.entries.entries a.entries.count
-  pub room : HasRoom a.entries (length a.names.keys) a.ready
+  pub room : HasRoom a.entries a.names a.ready

@@ -1,10 +1,12 @@
 pub mod Last
 pub mod Labels
+pub mod Names
 pub mod Facts
 pub mod Pairs
 pub mod Entries
 pub mod KeptSlots
 pub mod KeptEntries
+pub mod KeptNames
 pub mod KeptLabels
 pub mod KeptFacts
 pub mod KeptPairs

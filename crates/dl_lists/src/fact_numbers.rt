@@ -172,16 +172,17 @@ impl FactNumbers {
         }
     }
 
-    /// The same facts with the same numbers. How they are found is left out.
+    /// The same facts with the same numbers, which are found as these are.
     pub fn copy(&self) -> Result<FactNumbers, Memory>
         ensures items { IfOk result (λ copy. copy.items ≡ self.now.items) }
         ensures width { IfOk result (λ copy. copy.width ≡ self.now.width) }
-        ensures placed { IfOk result (λ copy. copy.placed ≡ false) }
+        ensures placed { IfOk result (λ copy. copy.placed ≡ self.now.placed) }
     {
         let facts = self.facts.copy()?;
+        let places = copied_places(&self.places)?;
         Ok(FactNumbers {
             facts,
-            places: None,
+            places,
             width: self.width,
             live: self.live,
         })
@@ -228,6 +229,17 @@ fn drop_place(places: &mut Option<Slots>, literal: usize)
     match places {
         None => {}
         Some(places) => places.clear(literal),
+    }
+}
+
+/// The same places, if there are any.
+fn copied_places(places: &Option<Slots>) -> Result<Option<Slots>, Memory>
+    ensures same { IfOk result (λ copy. is_some copy ≡ is_some places.now) }
+    ensures placed { IfOk result (λ copy. (facts : List (Option ℕ)) (w : ℕ) → ArePlacedIn facts w places.now → ArePlacedIn facts w copy) }
+{
+    match places {
+        None => Ok(None),
+        Some(places) => Ok(Some(places.copy()?)),
     }
 }
 

@@ -210,16 +210,17 @@ impl PairNumbers {
         }
     }
 
-    /// The same pairs with the same numbers. How they are found is left out, and what is prepared.
+    /// The same pairs with the same numbers, which are found as these are. What is prepared is left out.
     pub fn copy(&self) -> Result<PairNumbers, Memory>
         ensures items { IfOk result (λ copy. copy.items ≡ self.now.items) }
         ensures ready { IfOk result (λ copy. copy.ready ≡ None) }
-        ensures placed { IfOk result (λ copy. copy.placed ≡ false) }
+        ensures placed { IfOk result (λ copy. copy.placed ≡ self.now.placed) }
     {
         let pairs = self.pairs.copy()?;
+        let places = copied_places(&self.places)?;
         Ok(PairNumbers {
             pairs,
-            places: None,
+            places,
             ready: None,
             live: self.live,
         })
@@ -258,5 +259,16 @@ fn remove_places(places: &mut Option<PairPlaces>, pair: Link, number: u32)
     match places {
         None => {}
         Some(places) => places.remove(pair, number),
+    }
+}
+
+/// The same places, if there are any.
+fn copied_places(places: &Option<PairPlaces>) -> Result<Option<PairPlaces>, Memory>
+    ensures same { IfOk result (λ copy. is_some copy ≡ is_some places.now) }
+    ensures placed { IfOk result (λ copy. (items : List (Option Link)) → ArePlacedIn items places.now → ArePlacedIn items copy) }
+{
+    match places {
+        None => Ok(None),
+        Some(places) => Ok(Some(places.copy()?)),
     }
 }

@@ -86,6 +86,16 @@ impl PairPlaces {
         self.lowers.clear(rule);
         below + above
     }
+
+    /// Where the same pairs are.
+    pub fn copy(&self) -> Result<PairPlaces, Memory>
+        ensures { IfOk result (λ copy. (items : List (Option Link)) → ArePlaced items self.now.uppers self.now.lowers
+            → ArePlaced items copy.uppers copy.lowers) }
+    {
+        let uppers = self.uppers.copy()?;
+        let lowers = self.lowers.copy()?;
+        Ok(PairPlaces { uppers, lowers })
+    }
 }
 
 /// The pair with a number; `None` exactly where it is empty, and past the end.

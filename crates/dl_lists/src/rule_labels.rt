@@ -3,13 +3,11 @@
 ghost use Rattle.std.specs.Prelude.{◌≡◌, ◌<◌, ◌≤◌, ◌↔◌, [], ◌∷◌, ◌++◌, Some, None, false, IsSome, OnOk, OnErr, IfOk, IfSome, IfNone, Contains, length, get_or, if◌then◌else◌};
 ghost use Rattle.dl_lists.specs.Last.{IsLast};
 ghost use Rattle.dl_lists.specs.Labels.{no_labels};
-ghost use Rattle.dl_lists.specs.KeptLabels.{name_at};
-ghost use Rattle.dl_base.specs.Paths.{IsDistinct};
 
 use crate::entries::Entries;
+use crate::label_names::LabelNames;
 use dl_base::Memory;
-use dl_lit::{Name, NameSet, name_set};
-use dl_theory::insert_label;
+use dl_lit::{Name, NameSet};
 use std::alloc::Global;
 use std::marker::Model;
 
@@ -17,7 +15,7 @@ use std::marker::Model;
 /// once.
 pub struct RuleLabels {
     alloc: Global,
-    names: NameSet<Name>,
+    names: LabelNames,
     entries: Entries,
     ready: Ready,
 }
@@ -37,7 +35,7 @@ impl Drop for RuleLabels {
 #[derive(Clone, Copy, Debug, PartialEq, Eq)]
 enum Ready {
     Nothing,
-    /// It stands last among the names, and no number has it.
+    /// It stands last among the names, and is not shared. No number has it.
     New,
     /// It is the name at this entry, and some number has it.
     Again(usize),
@@ -61,7 +59,7 @@ impl RuleLabels {
     {
         RuleLabels {
             alloc,
-            names: name_set(alloc),
+            names: LabelNames::make(alloc),
             entries: Entries::make(),
             ready: Ready::Nothing,
         }
@@ -76,7 +74,7 @@ impl RuleLabels {
         let entries = Entries::of(names.len());
         RuleLabels {
             alloc,
-            names,
+            names: LabelNames::of(names),
             entries,
             ready: Ready::Nothing,
         }
@@ -92,7 +90,7 @@ impl RuleLabels {
         ensures ready { self.new.ready ≡ None }
     {
         self.entries.reserve()?;
-        let new = insert_label(&mut self.names, label)?;
+        let new = self.names.insert(label)?;
         if new {
             self.entries.push_new();
         }
@@ -107,7 +105,7 @@ impl RuleLabels {
         ensures ready { OnOk result (self.new.ready ≡ Some label.now) }
         ensures err { OnErr result (self.new.ready ≡ None) }
     {
-        match place_of(&self.names, label) {
+        match self.names.find(label) {
             Some(entry) => {
                 self.entries.part(self.alloc)?;
                 self.entries.reserve()?;
@@ -116,7 +114,7 @@ impl RuleLabels {
             None => {
                 self.entries.reserve()?;
                 let label = label.copy()?;
-                insert_label(&mut self.names, label)?;
+                self.names.insert(label)?;
                 self.ready = Ready::New;
             }
         }
@@ -147,6 +145,14 @@ impl RuleLabels {
         self.ready = Ready::Nothing;
     }
 
+    /// From here on a copy shares most of the labels, and copies those that come later. Where there is no memory, nothing changes.
+    pub fn freeze(&mut self)
+        requires { self.old.ready ≡ None }
+        ensures { self.new ≡ self.old }
+    {
+        self.names.freeze();
+    }
+
     /// How many numbers there are.
     pub fn len(&self) -> usize
         ensures { result ≡ length self.now.labels }
@@ -159,10 +165,7 @@ impl RuleLabels {
         requires { number < length self.now.labels }
         ensures { result.now ≡ get_or self.now.labels number [] }
     {
-        match self.names.get_index(self.entries.entry(number)) {
-            None => unreachable!(),
-            Some(name) => name,
-        }
+        self.names.name(self.entries.entry(number))
     }
 
     /// The last number with a label; `None` exactly where no number has it. Takes one look-up.
@@ -171,18 +174,18 @@ impl RuleLabels {
         ensures there { IfSome result (IsLast self.now.labels label.now) }
         ensures absent { IfNone result (¬ Contains self.now.labels label.now) }
     {
-        match place_of(&self.names, label) {
+        match self.names.find(label) {
             None => None,
             Some(entry) => self.entries.last(entry),
         }
     }
 
-    /// The same labels.
+    /// The same labels. Most of those that were there at the last freeze are shared, and the others are copied.
     pub fn copy(&self) -> Result<RuleLabels, Memory>
         requires { self.now.ready ≡ None }
         ensures { IfOk result (λ copy. copy ≡ self.now) }
     {
-        let names = copied_names(self.alloc, &self.names)?;
+        let names = self.names.copy()?;
         let entries = self.entries.copy()?;
         Ok(RuleLabels {
             alloc: self.alloc,
@@ -191,26 +194,4 @@ impl RuleLabels {
             ready: Ready::Nothing,
         })
     }
-}
-
-/// The place of a label among names.
-#[inline(always)]
-fn place_of(names: &NameSet<Name>, label: &Name) -> Option<usize>
-    ensures within { IfSome result (λ e. e < length names.now.keys) }
-    ensures there { IfSome result (λ e. name_at names.now.keys e ≡ label.now) }
-    ensures absent { IfNone result (¬ Contains names.now.keys label.now) }
-{
-    names.get_index_of(label)
-}
-
-/// The same names in the same order.
-fn copied_names(alloc: Global, names: &NameSet<Name>) -> Result<NameSet<Name>, Memory>
-    requires { IsDistinct names.now.keys }
-    ensures { IfOk result (λ copy. copy.keys ≡ names.now.keys) }
-{
-    let mut copy = name_set(alloc);
-    for name in names.as_slice() {
-        insert_label(&mut copy, name.copy()?)?;
-    }
-    Ok(copy)
 }

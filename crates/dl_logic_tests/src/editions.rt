@@ -31,13 +31,7 @@ fn add_conclusion(
 }
 
 /// The conclusions of an edition in a family, each on a line.
-pub(crate) fn expect_conclusions(
-    rt: &impl Abort,
-    alloc: Global,
-    held: &Held,
-    family: Family,
-    text: &str,
-) {
+fn expect_list(rt: &impl Abort, alloc: Global, held: &Held, family: Family, text: &str) {
     let list = held.conclusions(family).expect(rt, "conclusions");
     let mut lines = sink(alloc);
     for at in 0..list.len() {
@@ -46,6 +40,19 @@ pub(crate) fn expect_conclusions(
     }
     assert!(rt; list.get(list.len()).is_none());
     assert!(rt; lines.bytes() == text.as_bytes());
+}
+
+/// The conclusions of an edition in a family. Another holder is told the same, after the order was made for the first.
+pub(crate) fn expect_conclusions(
+    rt: &impl Abort,
+    alloc: Global,
+    held: &Held,
+    family: Family,
+    text: &str,
+) {
+    expect_list(rt, alloc, held, family, text);
+    let copy = held.copy().expect(rt, "a copy");
+    expect_list(rt, alloc, &copy, family, text);
 }
 
 /// The text of an edition, and how many lines that is.

@@ -6,21 +6,23 @@ use crate::bits::{NEW, has, with};
 use crate::steps::Steps;
 use dl_base::Memory;
 use dl_lit::Tag;
+use dl_pages::Table;
 use std::alloc::Global;
 use std::marker::Model;
 use std::sync::ledger::Ledger;
 
-/// Which tags stand at which numbers.
+/// Which tags stand at which numbers. A number has one byte.
+///
+/// The bytes stand in one list, which is owned, and from the first freeze on shared as a whole. Whoever owns a number of it then copies it into
+/// pages of 256 numbers, which all that share them have in common: from then on `share` copies a pointer to each page, `own` copies the one
+/// page of its number, and whoever reads pays one look-up more, for the page.
 pub struct Marks {
-    /// The marks of each number.
-    bytes: Vec<u8>,
-    /// Whether the marks may be written.
-    owned: bool,
+    bytes: Table<u8>,
 }
 
 impl Drop for Marks {
     fn drop(self) {
-        let Marks { bytes: _, owned: _ } = self;
+        let Marks { bytes: _ } = self;
     }
 }
 
@@ -42,8 +44,7 @@ impl Marks {
         ensures { result ≡ no_marks }
     {
         Marks {
-            bytes: Vec::new(alloc),
-            owned: true,
+            bytes: Table::make(alloc),
         }
     }
 
@@ -63,13 +64,14 @@ impl Marks {
         ensures no_steps { OnErr result (steps.new ≡ steps.old) }
     {
         let old = self.bytes.len();
-        self.bytes.resize(len, NEW)?;
-        self.owned = true;
+        self.bytes.widen(len, NEW)?;
         steps.grow(len - old);
         Ok(())
     }
 
-    /// From here on the marks of a number may be written. `Memory` leaves the marks as they were.
+    /// From here on the marks of a number may be written, and those of the numbers in its page. A page that was shared is copied for that, and
+    /// marks that are shared as a whole are copied into pages, once.
+    /// `Memory` leaves the marks as they were.
     pub fn own(&mut self, number: usize) -> Result<(), Memory>
         requires { number < places self.old }
         ensures len { places self.new ≡ places self.old }
@@ -78,10 +80,7 @@ impl Marks {
         ensures still_owned { OnOk result ((n : ℕ) → IsTrue (is_owned self.old n) → IsTrue (is_owned self.new n)) }
         ensures same_owned { OnErr result ((n : ℕ) → is_owned self.new n ≡ is_owned self.old n) }
     {
-        // No bytes are shared with other marks, so all numbers are owned at once.
-        let _ = number;
-        self.owned = true;
-        Ok(())
+        self.bytes.own(number)
     }
 
     /// Sets a mark, in one step.
@@ -114,20 +113,21 @@ impl Marks {
         ensures owned { (n : ℕ) → is_owned self.new n ≡ is_owned self.old n }
         ensures step { steps.new ≡ steps.old + 1 }
     {
-        let byte = with(self.bytes[number], tag, value);
-        self.bytes[number] = byte;
+        // A number that is owned is below the length.
+        let _len = self.bytes.len();
+        let byte = *self.bytes.at(number);
+        self.bytes.put(number, with(byte, tag, value));
         steps.tick();
     }
 
-    /// From here on the marks can be shared, and none may be written. `Memory` leaves the marks as they were.
+    /// From here on the marks can be shared, and none may be written. It costs one `Arc`, or one for each page that was owned, and copies no
+    /// marks. `Memory` leaves the marks as they were, but fewer may be owned.
     pub fn freeze(&mut self) -> Result<(), Memory>
         ensures len { places self.new ≡ places self.old }
         ensures same { (t : Tag) (n : ℕ) → marked self.new t n ≡ marked self.old t n }
         ensures frozen { OnOk result (IsFrozen self.new) }
-        ensures same_owned { OnErr result ((n : ℕ) → is_owned self.new n ≡ is_owned self.old n) }
     {
-        self.owned = false;
-        Ok(())
+        self.bytes.freeze()
     }
 
     /// How many numbers there are.
@@ -143,18 +143,17 @@ impl Marks {
         requires { number < places self.now }
         ensures { result ≡ marked self.now tag number }
     {
-        has(self.bytes[number], tag)
+        has(*self.bytes.at(number), tag)
     }
 
-    /// The same marks once more, frozen. `Memory` where there is none for the copy.
+    /// The same marks once more, frozen. It copies one pointer, or one for each page, and no marks. `Memory` where there is none for the
+    /// pointers, or where a count is full.
     pub fn share(&self) -> Result<Marks, Memory>
         requires { IsFrozen self.now }
         ensures { IfOk result (λ marks. marks ≡ self.now) }
     {
-        let bytes = Vec::from_slice(*self.bytes.allocator(), self.bytes.as_slice())?;
         Ok(Marks {
-            bytes,
-            owned: false,
+            bytes: self.bytes.share()?,
         })
     }
 }

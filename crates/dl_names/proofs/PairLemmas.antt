@@ -96,7 +96,7 @@ has_at (p ∷ ps) q (suc (suc i)) lt e =
 pub pairs_absent : (ps : List Literal) (q : Literal) → list_any (same_atom q) ps ≡ false → ¬ Contains (pairs_of ps) q
 pairs_absent ps q none m = let yes = has_at ps q m.0 m.1 m.2 in cc
 
-pairs_any : (ps : List Literal) (q : Literal) → list_any (same_atom q) ps ≡ true → Contains (pairs_of ps) q
+pub pairs_any : (ps : List Literal) (q : Literal) → list_any (same_atom q) ps ≡ true → Contains (pairs_of ps) q
 pairs_any [] q h = cc
 pairs_any (p ∷ ps) q h =
     elim (or_cases (same_atom q p) (list_any (same_atom q) ps) h) [

@@ -1,5 +1,5 @@
 -- How the fields of the names hold their literals.
-use Rattle.std.specs.Prelude.{◌≤◌, ◌^◌, false, length}
+use Rattle.std.specs.Prelude.{false}
 use Rattle.dl_base.specs.Paths.{IsDistinct}
 use Rattle.dl_lit.specs.Names.{Numbering}
 use Rattle.dl_names.specs.declared.paired_names.PairedNames.TheInside.{Inside}
@@ -10,4 +10,3 @@ numbering_of n = record { literals = pairs_of n.pairs; frozen = false }
 
 pub record IsKeptNames (n : Inside) : Type 0 where
   pub distinct : IsDistinct (pairs_of n.pairs)
-  pub few : length n.pairs ≤ 2 ^ 31

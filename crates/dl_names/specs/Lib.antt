@@ -4,3 +4,4 @@ pub mod Stems
 pub mod Atoms
 pub mod KeptAtoms
 pub mod KeptNames
+pub mod KeptPairs

@@ -79,6 +79,11 @@ impl AtomPairs {
         Ok(())
     }
 
+    /// Where the pairs have their memory from.
+    pub(crate) fn alloc(&self) -> Global {
+        *self.atoms.allocator()
+    }
+
     /// How many pairs there are.
     #[inline(always)]
     pub fn len(&self) -> usize
@@ -161,7 +166,7 @@ impl AtomPairs {
         Ok(AtomPairs {
             modes,
             atoms,
-            stems: Stems::make(*self.atoms.allocator()),
+            stems: Stems::make(self.alloc()),
         })
     }
 }

@@ -8,18 +8,15 @@ ghost use Rattle.dl_lit.specs.Literal.{literal_eq, complement};
 ghost use Rattle.dl_lit.specs.Names.{no_names, with_both};
 ghost use Rattle.dl_names.specs.Paired.{IsPaired, flip};
 
-use crate::atom_pairs::AtomPairs;
+use crate::shared_pairs::SharedPairs;
 use dl_base::Memory;
 use dl_lit::{Literal, LiteralRef};
 use std::alloc::Global;
 use std::marker::Model;
 
-/// As many pairs as have numbers of 32 bits.
-const PAIR_LIMIT: usize = 0x8000_0000;
-
 /// Literals by number, each beside its complement. One look-up finds both.
 pub struct PairedNames {
-    pairs: AtomPairs,
+    pairs: SharedPairs,
 }
 
 impl Drop for PairedNames {
@@ -46,7 +43,7 @@ impl PairedNames {
         ensures { result ≡ no_names }
     {
         PairedNames {
-            pairs: AtomPairs::make(alloc),
+            pairs: SharedPairs::make(alloc),
         }
     }
 
@@ -54,7 +51,7 @@ impl PairedNames {
     pub fn with_room(alloc: Global, pairs: usize) -> Result<PairedNames, Memory>
         ensures { IfOk result (λ names. names ≡ no_names) }
     {
-        let mut empty = AtomPairs::make(alloc);
+        let mut empty = SharedPairs::make(alloc);
         empty.reserve(pairs)?;
         Ok(PairedNames { pairs: empty })
     }
@@ -163,16 +160,22 @@ impl PairedNames {
         ensures same { IfOk result (λ put. IfNone put (self.new ≡ self.old)) }
         ensures kept { OnErr result (self.new ≡ self.old) }
     {
-        if self.pairs.len() >= PAIR_LIMIT {
-            return Ok(None);
-        }
         match self.pairs.put(literal, likely_sought)? {
             None => return Ok(None),
             Some(place) => Ok(Some(2 * place)),
         }
     }
 
-    /// The same literals at the same numbers once more. `Memory` where there is none for them.
+    /// Keeps copies small. Names that were made by a copy, or copied from one, share a part that does not change; where much came since, this
+    /// joins it to that part, so that the next copy copies at most as many pairs as the root of the others. Where there is no memory for that
+    /// the parts stay. The first copy of names that nobody copied yet copies all. No clause tells what is shared.
+    pub fn freeze(&mut self)
+        ensures { self.new ≡ self.old }
+    {
+        self.pairs.freeze();
+    }
+
+    /// The same literals at the same numbers once more. It costs what came since they were frozen. `Memory` where there is none for it.
     pub fn copy(&self) -> Result<PairedNames, Memory>
         ensures { IfOk result (λ names. names ≡ self.now) }
     {

@@ -24,7 +24,8 @@ use dl_theory::{Pair, RulePairs, insert_label};
 use std::alloc::Global;
 
 impl Tables {
-    /// Gives numbers anew where most are empty. Where there is no memory for that they stay as they are.
+    /// Gives numbers anew where most are empty. Where there is no memory for that they stay as they are, and each edit that is prepared from
+    /// then on tries again, at the cost of a pass over all numbers.
     pub(crate) fn renew(&mut self)
         requires kept { AreKept self.old }
         requires settled { AreSettled self.old }

@@ -20,8 +20,8 @@ use std::sync::Arc;
 
 /// A theory whose literals, facts, rules and pairs have numbers, with its indexes.
 ///
-/// No edit moves a number. What is added goes last, and what goes leaves its number empty; where more numbers are empty than there are
-/// facts, rules, pairs and literals, preparing an edit first numbers facts, rules and pairs anew.
+/// Making an edit moves no number: what is added goes last, and what goes leaves its number empty. Preparing one may move many: where more
+/// numbers are empty than there are facts, rules, pairs and literals, facts, rules and pairs first get numbers anew. Literals keep theirs.
 pub struct Net {
     held: Held,
     /// The edit that is prepared.
@@ -134,7 +134,7 @@ impl Net {
         ensures frozen { self.new.frozen ≡ false }
     {
         match &mut self.held {
-            Held::Shared(_) => unreachable!(),
+            Held::Shared { .. } => unreachable!(),
             Held::Own(tables) => tables.make_edit(&ready.edit),
         }
         self.pending = None;
@@ -154,15 +154,19 @@ impl Net {
         Ok(())
     }
 
-    /// The same theory with the same numbers once more, frozen, at the cost of a count. `Memory` where it is shared too often.
+    /// The same theory with the same numbers once more, frozen, at the cost of a count. The order of the pairs, which only edits need, stays
+    /// with this one. `Memory` where it is shared too often.
     pub fn share(&self) -> Result<Net, Memory>
         requires { IsTrue self.now.frozen }
         ensures { IfOk result (λ net. net ≡ self.now) }
     {
         match &self.held {
             Held::Own(_) => unreachable!(),
-            Held::Shared(tables) => Ok(Net {
-                held: Held::Shared(tables.clone()?),
+            Held::Shared { tables, order: _ } => Ok(Net {
+                held: Held::Shared {
+                    tables: tables.clone()?,
+                    order: None,
+                },
                 pending: None,
                 frozen: true,
             }),

@@ -93,13 +93,25 @@ impl Tables {
         self.graph().find_rule(label)
     }
 
-    /// The same tables once more, without the order of the pairs. `Memory` where there is none for them.
+    /// From here on a copy shares the labels that are there, and the names that an earlier copy had. The first copy copies all names. Where
+    /// memory for that lacks a copy only costs more, and no clause tells what is shared.
+    pub(crate) fn freeze(&mut self)
+        requires { AreSettled self.old }
+        ensures { self.new ≡ self.old }
+    {
+        self.names.freeze();
+        self.labels.freeze();
+    }
+
+    /// The same tables once more, without the order of the pairs. Names and labels that were frozen are shared, all else is copied. `Memory` where
+    /// there is none for them.
     pub(crate) fn copy(&self) -> Result<Tables, Memory>
         requires kept { AreKept self.now }
         requires settled { AreSettled self.now }
         ensures kept { IfOk result AreKept }
         ensures settled { IfOk result AreSettled }
         ensures net { IfOk result (λ copy. net_in copy ≡ net_in self.now) }
+        ensures pairs { IfOk result (λ copy. copy.pairs.items ≡ self.now.pairs.items) }
     {
         let names = self.names.copy()?;
         let labels = self.labels.copy()?;

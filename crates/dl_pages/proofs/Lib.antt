@@ -1,3 +1,4 @@
 pub mod PartLemmas
 pub mod PageLemmas
 pub mod PagedLemmas
+pub mod TableLemmas

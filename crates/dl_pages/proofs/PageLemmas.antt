@@ -15,6 +15,14 @@ none_front zero b ys e h i = h i
 none_front (suc n) b ys e h zero = e
 none_front (suc n) b ys e h (suc i) = none_front n b ys e h i
 
+-- only a place of the list is owned
+pub true_within : (owned : List Bool) (at : ℕ) → get_or owned at false ≡ true → at < length owned
+true_within owned at h =
+    elim (cases_lt at (length owned)) [
+      | inl lt ↦ lt
+      | inr ge ↦ let past : get_or owned at false ≡ false = get_or_past owned at false ge in absurd (cc)
+    ]
+
 raise_front : (n m : ℕ) (b c : Bool) (ys zs : List Bool) → n ≡ m → (b ≡ true → c ≡ true)
     → ((i : ℕ) → get_or ys i false ≡ true → get_or zs i false ≡ true) → (i : ℕ) → get_or (replicate n b ++ ys) i false ≡ true
     → get_or (replicate m c ++ zs) i false ≡ true

@@ -13,7 +13,7 @@ module _ {T : Type 0} (pages : List (PageItems T)) (numbers : List ℕ) (len spa
   pub length_is : length list.items ≡ len
   length_is = ap (λ v. length v.items) (sym view) ∙ filled_length (parts pages) len kept.filled
 
-  owned_is : length list.owned ≡ len
+  pub owned_is : length list.owned ≡ len
   owned_is = ap (λ v. length v.owned) (sym view) ∙ filled_length (map marks pages) len (page.marks_filled pages len kept.filled)
 
   spare_is : list.spare ≡ spare
@@ -21,11 +21,7 @@ module _ {T : Type 0} (pages : List (PageItems T)) (numbers : List ℕ) (len spa
 
   -- only a place of the list is owned
   pub owned_within : (at : ℕ) → Owns list at → at < length list.items
-  owned_within at h =
-      elim (cases_lt at (length list.items)) [
-        | inl lt ↦ lt
-        | inr ge ↦ let past : get_or list.owned at false ≡ false = get_or_past list.owned at false (omega (arith, ge, owned_is, length_is)) in absurd (cc)
-      ]
+  owned_within at h = omega (arith, page.true_within list.owned at h, owned_is, length_is)
 
   pages_within : (k : ℕ) → 256 * k < len + spare → k < length pages
   pages_within k h = omega (arith, h, kept.room)
@@ -165,54 +161,55 @@ module _ {T : Type 0} (pages : List (PageItems T)) (numbers : List ℕ) (len spa
       pub kept_frozen : (owned : List ℕ) → AreListed new owned → IsKeptPaged new owned len 0
       kept_frozen owned listed = page.kept_frozen pages new owned len used kept.filled (omega (arith, kept.small)) le tight e listed
 
-    pub owned_shared : (new : List (PageItems T)) → new ≡ take used pages → OwnsNothing list → OwnsNothing (paged_of new 0)
-    owned_shared new e none at =
-        ap (λ ps. get_or (owned_of ps) at false) e
-        ∙ ap (λ (bs : List Bool). get_or bs at false) (page.owned_frozen pages len used kept.filled le ∙ ap (λ v. v.owned) view) ∙ none at
+    pub owned_shared : (new : List (PageItems T)) → new ≡ take used pages → owned_of new ≡ list.owned
+    owned_shared new e = ap owned_of e ∙ page.owned_frozen pages len used kept.filled le ∙ ap (λ v. v.owned) view
 
   -- ---- more pages
 
-  module _ (mid new : List (PageItems T)) (m : ℕ) (keeps : KeepsPages pages mid) (e : new ≡ mid ++ replicate m empty_page) where
-    pub items_grown : items_of new ≡ list.items
-    items_grown = ap items_of e ∙ page.items_more mid m ∙ items_kept mid keeps.items
+  module _ (mid : List (PageItems T)) (m : ℕ) (e : mid ≡ pages ++ replicate m empty_page) where
+    pub owned_appended : owned_of mid ≡ list.owned
+    owned_appended = ap owned_of e ∙ page.owned_more pages m ∙ ap (λ v. v.owned) view
 
-    pub owned_grown : (spare' : ℕ) → KeepsOwned list (paged_of new spare')
-    owned_grown spare' at h =
-        ap (λ ps. get_or (owned_of ps) at false) e ∙ ap (λ (bs : List Bool). get_or bs at false) (page.owned_more mid m) ∙ keeps_owned mid spare' keeps at h
+    module _ (new : List (PageItems T)) (keeps : KeepsPages mid new) where
+      pub items_grown : items_of new ≡ list.items
+      items_grown = ap joined keeps.items ∙ ap items_of e ∙ page.items_more pages m ∙ ap (λ v. v.items) view
 
-    flags_grown : (k : ℕ) → get_or (flags mid) k true ≡ true → get_or (flags new) k true ≡ true
-    flags_grown k h = ap (λ ps. get_or (flags ps) k true) e ∙ page.flags_more mid m k h
+      pub owned_grown : (spare' : ℕ) → KeepsOwned list (paged_of new spare')
+      owned_grown spare' at h = page.owned_up mid new keeps.items keeps.owned at (ap (λ (bs : List Bool). get_or bs at false) owned_appended ∙ h)
 
-    filled_grown : Filled (parts new) len
-    filled_grown =
-        subst (λ ps. Filled (parts ps) len) (sym e) (page.filled_more mid m len (subst (λ ps. Filled ps len) (sym keeps.items) kept.filled))
+      flags_grown : (k : ℕ) → get_or (flags pages) k true ≡ true → get_or (flags new) k true ≡ true
+      flags_grown k h = keeps.owned k (ap (λ ps. get_or (flags ps) k true) e ∙ page.flags_more pages m k h)
 
-    pub wider : length pages ≤ length new
-    wider = omega (arith, ap length e, length-append mid (replicate m empty_page), page.length_same pages mid keeps.items)
+      filled_grown : Filled (parts new) len
+      filled_grown =
+          subst (λ ps. Filled ps len) (sym keeps.items) (subst (λ ps. Filled (parts ps) len) (sym e) (page.filled_more pages m len kept.filled))
 
-    pub kept_grown : (owned : List ℕ) → AreListed new owned → IsKeptPaged new owned len spare
-    kept_grown owned listed = record {
-      filled = filled_grown;
-      listed = listed;
-      small = kept.small;
-      room = omega (arith, kept.room, wider);
-      fresh = λ k h. flags_grown k (keeps.owned k (kept.fresh k h));
-      ready = λ some k h. flags_grown k (keeps.owned k (kept.ready some k h));
-    }
+      pub wider : length pages ≤ length new
+      wider = omega (arith, ap length e, length-append pages (replicate m empty_page), page.length_same mid new keeps.items)
 
-    -- with all the room that the pages have
-    pub kept_wider : (owned : List ℕ) (spare' : ℕ) → AreListed new owned
-        → ((k : ℕ) → 256 * k < len → len < 256 * (k + 1) → get_or (flags mid) k true ≡ true) → len + spare' < 2 ^ 64 → len + spare' ≤ 256 * length new
-        → IsKeptPaged new owned len spare'
-    kept_wider owned spare' listed last small room = record {
-      filled = filled_grown;
-      listed = listed;
-      small = small;
-      room = room;
-      fresh = λ k h. flags_grown k (keeps.owned k (kept.fresh k h));
-      ready = λ some k h.
-          elim (cases_lt (256 * k) len) [
-            | inl lt ↦ flags_grown k (last k lt h)
-            | inr ge ↦ flags_grown k (keeps.owned k (kept.fresh k (omega (arith, ge))))
-          ];
-    }
+      pub kept_grown : (owned : List ℕ) → AreListed new owned → IsKeptPaged new owned len spare
+      kept_grown owned listed = record {
+        filled = filled_grown;
+        listed = listed;
+        small = kept.small;
+        room = omega (arith, kept.room, wider);
+        fresh = λ k h. flags_grown k (kept.fresh k h);
+        ready = λ some k h. flags_grown k (kept.ready some k h);
+      }
+
+      -- with all the room that the pages have
+      pub kept_wider : (owned : List ℕ) (spare' : ℕ) → AreListed new owned
+          → ((k : ℕ) → 256 * k < len → len < 256 * (k + 1) → get_or (flags new) k true ≡ true) → len + spare' < 2 ^ 64 → len + spare' ≤ 256 * length new
+          → IsKeptPaged new owned len spare'
+      kept_wider owned spare' listed last small room = record {
+        filled = filled_grown;
+        listed = listed;
+        small = small;
+        room = room;
+        fresh = λ k h. flags_grown k (kept.fresh k h);
+        ready = λ some k h.
+            elim (cases_lt (256 * k) len) [
+              | inl lt ↦ last k lt h
+              | inr ge ↦ flags_grown k (kept.fresh k (omega (arith, ge)))
+            ];
+      }

@@ -2,3 +2,4 @@ pub mod Paged
 pub mod Pages
 pub mod KeptPage
 pub mod KeptPaged
+pub mod KeptTable

@@ -4,9 +4,14 @@
 //! that is shared is never written: `own` takes a copy of the one page first. `freeze` gives all pages up for sharing, and `share` then
 //! makes an equal list at the cost of a count for each page. A contract sees the elements, which places may be written, and how many
 //! elements more go in without memory (`specs/Paged.antt`). Begin with `paged.rt`.
+//!
+//! A `Table` is such a list for whom most lists are never written once they are shared: it stands flat, as one `Vec`, until it is written
+//! after a freeze, and in pages from then on.
 #![tactic(auto)]
 
 mod page;
 mod paged;
+mod table;
 
 pub use paged::Paged;
+pub use table::Table;

@@ -1,6 +1,6 @@
 //! A list in pages that can be shared.
 
-ghost use Rattle.std.specs.Prelude.{◌≡◌, ℕ, ◌+◌, ◌*◌, ◌<◌, ◌≤◌, [], ◌∷◌, ◌++◌, true, false, List, IfOk, OnOk, map, length, get_or, set, replicate};
+ghost use Rattle.std.specs.Prelude.{◌≡◌, ℕ, ◌+◌, ◌*◌, ◌<◌, ◌≤◌, [], ◌∷◌, ◌++◌, true, false, List, IfOk, OnOk, OnErr, map, length, get_or, set, replicate};
 ghost use Rattle.dl_pages.specs.Paged.{Owns, OwnsNothing, KeepsOwned, IsExact};
 ghost use Rattle.dl_pages.specs.Pages.{parts, flags, empty_page, KeepsPages, AreListed};
 
@@ -72,6 +72,7 @@ impl<T> Paged<T> {
     }
 
     /// An element in the place of another, which is returned. The place is owned. Takes no memory.
+    #[inline(never)]
     pub fn put(&mut self, at: usize, value: T) -> T
         requires { Owns self.old at }
         ensures value { result ≡ get_or self.old.items at result }
@@ -83,14 +84,18 @@ impl<T> Paged<T> {
         page.put(at % PAGE, value)
     }
 
-    /// How many elements there are.
+    /// How many elements there are. Each place is owned or not.
+    #[inline(always)]
     pub fn len(&self) -> usize
-        ensures { result ≡ length self.now.items }
+        ensures items { result ≡ length self.now.items }
+        ensures owned { result ≡ length self.now.owned }
     {
         self.len
     }
 
     /// The element at a place, by two look-ups: its page, and the element in it.
+    // not inlined, as `put`: who reads a list that may be flat keeps that way short
+    #[inline(never)]
     pub fn get(&self, at: usize) -> &T
         requires { at < length self.now.items }
         ensures { result.now ≡ get_or self.now.items at result.now }
@@ -118,6 +123,7 @@ impl<T: Drop> Paged<T> {
     pub fn share(&self) -> Result<Paged<T>, Memory>
         requires { OwnsNothing self.now }
         ensures items { IfOk result (λ list. list.items ≡ self.now.items) }
+        ensures owned { IfOk result (λ list. list.owned ≡ self.now.owned) }
         ensures shared { IfOk result OwnsNothing }
         ensures spare { IfOk result (λ list. list.spare ≡ 0) }
     {
@@ -139,11 +145,12 @@ impl<T: Drop> Paged<T> {
 
 impl<T: Clone> Paged<T> {
     /// Room for so many elements more. The last page is owned for it, where it has room for more. `Memory` where there is none: the
-    /// elements stay.
+    /// elements stay, and what is owned.
     pub fn reserve(&mut self, more: usize) -> Result<(), Memory>
         requires { IsExact T.is_clone }
         ensures items { self.new.items ≡ self.old.items }
         ensures owned { KeepsOwned self.old self.new }
+        ensures same_owned { OnErr result (self.new.owned ≡ self.old.owned) }
         ensures room { OnOk result (more ≤ self.new.spare) }
     {
         if more <= self.spare {
@@ -153,19 +160,21 @@ impl<T: Clone> Paged<T> {
             None => return Err(Memory),
             Some(all) => all.div_ceil(PAGE),
         };
-        own_last(&mut self.pages, &mut self.owned, self.len)?;
+        // The last page is owned when there is nothing else that can fail, so that an error leaves what is owned.
         append_pages(&mut self.pages, &mut self.owned, wanted)?;
+        own_last(&mut self.pages, &mut self.owned, self.len)?;
         self.spare = self.pages.len().saturating_mul(PAGE) - self.len;
         Ok(())
     }
 
     /// The place may be written from now on. The one page that it is in is copied where it is shared, and no other. `Memory` where there
-    /// is none for the copy: the elements stay.
+    /// is none for the copy: the elements stay, and what is owned.
     pub fn own(&mut self, at: usize) -> Result<(), Memory>
         requires exact { IsExact T.is_clone }
         requires within { at < length self.old.items }
         ensures items { self.new.items ≡ self.old.items }
         ensures owned { KeepsOwned self.old self.new }
+        ensures same_owned { OnErr result (self.new.owned ≡ self.old.owned) }
         ensures here { OnOk result (Owns self.new at) }
         ensures spare { OnOk result (self.old.spare ≤ self.new.spare) }
     {
@@ -173,7 +182,7 @@ impl<T: Clone> Paged<T> {
     }
 }
 
-/// A page is owned from now on, and the others stay. `Memory` where there is none for a copy of it.
+/// A page is owned from now on, and the others stay. `Memory` where there is none for a copy of it: all pages stay.
 fn own_page<T: Clone>(
     pages: &mut Vec<Page<T>>,
     owned: &mut Vec<usize>,
@@ -185,6 +194,7 @@ fn own_page<T: Clone>(
     ensures kept { KeepsPages pages.old.items pages.new.items }
     ensures listed { AreListed pages.new.items owned.new.items }
     ensures owned { OnOk result (get_or (flags pages.new.items) number true ≡ true) }
+    ensures same { OnErr result (pages.new.items ≡ pages.old.items) }
 {
     if pages[number].is_owned() {
         return Ok(());
@@ -197,7 +207,7 @@ fn own_page<T: Clone>(
     Ok(())
 }
 
-/// The page of the last element is owned from now on, if it has room for more.
+/// The page of the last element is owned from now on, if it has room for more. `Memory` leaves all pages as they were.
 fn own_last<T: Clone>(
     pages: &mut Vec<Page<T>>,
     owned: &mut Vec<usize>,
@@ -209,6 +219,7 @@ fn own_last<T: Clone>(
     ensures kept { KeepsPages pages.old.items pages.new.items }
     ensures listed { AreListed pages.new.items owned.new.items }
     ensures owned { OnOk result ((k : ℕ) → 256 * k < len → len < 256 * (k + 1) → get_or (flags pages.new.items) k true ≡ true) }
+    ensures same { OnErr result (pages.new.items ≡ pages.old.items) }
 {
     if len % PAGE == 0 {
         return Ok(());

@@ -1,5 +1,5 @@
 -- Maps, filters and numbers in lists.
-use Rattle.std.proofs.Common.{◌≡◌, ◌≢◌, ℕ, Bool, true, false, List, [], ◌∷◌, ◌++◌, map, refl, ap, ◌∙◌, cond}
+use Rattle.std.proofs.Common.{◌≡◌, ◌≢◌, ℕ, Bool, true, false, List, [], ◌∷◌, ◌++◌, map, refl, ap, ◌∙◌}
 use Rattle.std.specs.Prelude.{All, filter, not, ◌&&◌, ◌==◌, ◌||◌}
 use Rattle.std.specs.Bool.{Decides}
 use Rattle.std.proofs.lemmas.Bool.Decides.{Decides-eqb}
@@ -11,28 +11,6 @@ use Rattle.dl_rows.specs.Counting.{is_in}
 pub map_agree : {X Y : Type 0} (f g : X → Y) (xs : List X) → All (λ x. f x ≡ g x) xs → map f xs ≡ map g xs
 map_agree f g [] h = refl
 map_agree f g (x ∷ xs) h = λ i. All-head (λ y. f y ≡ g y) x xs h i ∷ map_agree f g xs (All-tail (λ y. f y ≡ g y) x xs h) i
-
-filter_step : {X : Type 0} (x : X) (b c : Bool) (us vs : List X) → b ≡ c → us ≡ vs → cond b (x ∷ us) us ≡ cond c (x ∷ vs) vs
-filter_step x b c us vs e d = λ i. cond (e i) (x ∷ d i) (d i)
-
-pub filter_agree_on : {X : Type 0} (p q : X → Bool) (xs : List X) → All (λ x. p x ≡ q x) xs → filter p xs ≡ filter q xs
-filter_agree_on p q [] h = refl
-filter_agree_on p q (x ∷ xs) h =
-    filter_step x (p x) (q x) (filter p xs) (filter q xs) (All-head (λ y. p y ≡ q y) x xs h)
-    (filter_agree_on p q xs (All-tail (λ y. p y ≡ q y) x xs h))
-
-pub map_cond : {X Y : Type 0} (f : X → Y) (x : X) (b : Bool) (us : List X) → map f (cond b (x ∷ us) us) ≡ cond b (f x ∷ map f us) (map f us)
-map_cond f x true us = refl
-map_cond f x false us = refl
-
--- a filter before a map, by a test that agrees with one behind it
-pub map-filter : {X Y : Type 0} (f : X → Y) (r : X → Bool) (p : Y → Bool) (xs : List X) → All (λ x. r x ≡ p (f x)) xs
-    → map f (filter r xs) ≡ filter p (map f xs)
-map-filter f r p [] h = refl
-map-filter f r p (x ∷ xs) h =
-    map_cond f x (r x) (filter r xs)
-    ∙ filter_step (f x) (r x) (p (f x)) (map f (filter r xs)) (filter p (map f xs)) (All-head (λ y. r y ≡ p (f y)) x xs h)
-    (map-filter f r p xs (All-tail (λ y. r y ≡ p (f y)) x xs h))
 
 pub false_from : {P : Type 0} (b : Bool) → Decides b P → (¬ P) → b ≡ false
 false_from true d fails = absurd (fails (d.0 refl))

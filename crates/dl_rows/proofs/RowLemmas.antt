@@ -1,13 +1,8 @@
 -- Rows of numbers that belong to the members of a list.
-use Rattle.std.proofs.Common.{◌≡◌, ℕ, zero, suc, ◌<◌, ◌≤◌, List, [], ◌∷◌, length, get_or, map, refl, arith}
+use Rattle.std.proofs.Common.{◌≡◌, ℕ, zero, suc, ◌≤◌, List, [], ◌∷◌, length, get_or, map, refl, arith}
 use Rattle.dl_rows.specs.Rows.{row}
 
 module _ {X : Type 0} (f : X → List ℕ) where
-  pub row_in : (xs : List X) (k : ℕ) (d : X) → k < length xs → row f xs k ≡ f (get_or xs k d)
-  row_in [] k d lt = absurd (omega (arith, lt))
-  row_in (x ∷ xs) zero d lt = refl
-  row_in (x ∷ xs) (suc k) d lt = row_in xs k d (omega (arith, lt))
-
   pub row_past : (xs : List X) (k : ℕ) → length xs ≤ k → row f xs k ≡ []
   row_past [] k past = refl
   row_past (x ∷ xs) zero past = absurd (omega (arith, past))

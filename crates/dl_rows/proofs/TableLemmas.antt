@@ -92,10 +92,6 @@ constant_at y [] n = refl
 constant_at y (x ∷ xs) zero = refl
 constant_at y (x ∷ xs) (suc n) = constant_at y xs n
 
-pub none_mapped : {X Y : Type 0} (f : X → Y) (xs : List X) → map {B = List ℕ} (λ _. []) (map f xs) ≡ map (λ _. []) xs
-none_mapped f [] = refl
-none_mapped f (x ∷ xs) = ap (λ (ls : List (List ℕ)). [] ∷ ls) (none_mapped f xs)
-
 -- ---- packed lists, which have no room that is known of
 
 -- they are kept where they are opened

@@ -6,7 +6,7 @@ use Rattle.std.proofs.lemmas.Bool.{cases_lt}
 use Rattle.std.proofs.lemmas.List.{get_or_past, get_or_append_left, get_or_push}
 use Rattle.std.proofs.lemmas.List.Elements.{Contains-append_cases, Contains-append_right}
 use Rattle.dl_base.specs.Paths.{IsDistinct}
-use Rattle.dl_base.proofs.Distinct.{distinct_nil, distinct_cons, distinct_head, distinct_tail}
+use Rattle.dl_base.proofs.Distinct.{distinct_head, distinct_tail}
 use Rattle.dl_base.proofs.Filters.{false_unless}
 use Rattle.dl_base.proofs.Members.{only}
 use Rattle.dl_rows.specs.There.{there, HasNumber, IsOnce, kept_if}
@@ -71,17 +71,6 @@ module _ {A : Type 0} where
       ]
 
   -- ---- no item has two numbers
-
-  once_tail : (o : Option A) (xs : List (Option A)) → IsOnce (o ∷ xs) → IsOnce xs
-  once_tail o xs h x m n has has' = omega (arith, h x (suc m) (suc n) has has')
-
-  pub there_distinct : (xs : List (Option A)) → IsOnce xs → IsDistinct (there xs)
-  there_distinct [] h = distinct_nil
-  there_distinct (None ∷ xs) h = there_distinct xs (once_tail None xs h)
-  there_distinct (Some x ∷ xs) h =
-      distinct_cons x (there xs)
-      (λ m. let at = there_has xs x m in absurd (omega (arith, h x 0 (suc at.0) refl at.1)))
-      (there_distinct xs (once_tail (Some x) xs h))
 
   pub distinct_once : (xs : List (Option A)) → IsDistinct (there xs) → IsOnce xs
   distinct_once [] h x m n has has' = cc

@@ -42,7 +42,7 @@ impl OpenRows {
         let alloc = packed.alloc();
         let mut rows = Vec::with_capacity(alloc, packed.len())?;
         for number in 0..packed.len() {
-            rows.push(Row::of(alloc, packed.row(number))?)?;
+            rows.push_reserved(Row::of(alloc, packed.row(number))?);
         }
         Ok(OpenRows { rows })
     }
@@ -51,11 +51,7 @@ impl OpenRows {
     pub fn copy(&self) -> Result<OpenRows, Memory>
         ensures { IfOk result (λ copy. copy.lists ≡ self.now.lists) }
     {
-        let alloc = *self.rows.allocator();
-        let mut rows = Vec::with_capacity(alloc, self.rows.len())?;
-        for number in 0..self.rows.len() {
-            rows.push(Row::of(alloc, self.row(number))?)?;
-        }
+        let rows = copied(*self.rows.allocator(), &self.rows)?;
         Ok(OpenRows { rows })
     }
 
@@ -135,4 +131,15 @@ impl Lists for OpenRows {
         let row = &mut self.rows[number];
         row.clear();
     }
+}
+
+/// Equal lists, in room of their number.
+fn copied(alloc: Global, rows: &[Row]) -> Result<Vec<Row>, Memory>
+    ensures { IfOk result (λ copy. map (λ v. v.items) copy.items ≡ map (λ v. v.items) rows.now) }
+{
+    let mut copy = Vec::with_capacity(alloc, rows.len())?;
+    for row in rows {
+        copy.push_reserved(row.copy()?);
+    }
+    Ok(copy)
 }

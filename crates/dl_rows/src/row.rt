@@ -1,9 +1,10 @@
 //! A list of numbers. Most lists are short: up to three numbers stand in the list itself.
 
-ghost use Rattle.std.specs.Prelude.{◌≡◌, ◌≤◌, ◌<◌, ◌+◌, [], ◌∷◌, ◌++◌, IfOk, OnOk, length};
+ghost use Rattle.std.specs.Prelude.{◌≡◌, ◌≤◌, ◌<◌, ◌+◌, [], ◌∷◌, ◌++◌, IfOk, OnOk, length, get_or};
 ghost use Rattle.std.specs.Vec.{vec_len, vec_capacity};
 ghost use Rattle.dl_rows.specs.Tables.{drop_item};
 ghost use Rattle.dl_rows.specs.Row.{no_row};
+ghost use Rattle.dl_rows.specs.KeptRow.{row_of, IsKeptRow};
 
 use dl_base::Memory;
 use std::alloc::Global;
@@ -59,11 +60,26 @@ impl Row {
     pub fn of(alloc: Global, numbers: &[u32]) -> Result<Row, Memory>
         ensures { IfOk result (λ row. row.items ≡ numbers.now) }
     {
-        let mut row = Row::make();
-        for number in numbers {
-            row.push(alloc, *number)?;
+        let numbers = if numbers.len() <= SHORT {
+            few(numbers)
+        } else {
+            let list = Vec::from_slice(alloc, numbers)?;
+            Numbers::Many(Box::new(alloc, list)?)
+        };
+        Ok(Row { numbers })
+    }
+
+    /// An equal list. `Memory` where there is none for it.
+    #[inline(always)]
+    pub fn copy(&self) -> Result<Row, Memory>
+        ensures { IfOk result (λ copy. copy.items ≡ self.now.items) }
+    {
+        match &self.numbers {
+            Numbers::Few(len, numbers) => Ok(Row {
+                numbers: Numbers::Few(*len, *numbers),
+            }),
+            Numbers::Many(list) => Row::of(*list.allocator(), list.as_slice()),
         }
-        Ok(row)
     }
 
     /// Room for one more number. `Memory` leaves the list as it was.
@@ -160,6 +176,30 @@ impl Row {
             Numbers::Few(len, numbers) => &numbers[..*len as usize],
             Numbers::Many(list) => list.as_slice(),
         }
+    }
+}
+
+/// A few numbers in place.
+fn few(numbers: &[u32]) -> Numbers
+    requires { length numbers.now ≤ 3 }
+    ensures items { (row_of result).items ≡ numbers.now }
+    ensures kept { IsKeptRow result }
+{
+    let len = numbers.len() as u8;
+    Numbers::Few(
+        len,
+        [place(numbers, 0), place(numbers, 1), place(numbers, 2)],
+    )
+}
+
+/// The number at a place, or 0.
+#[inline(always)]
+fn place(numbers: &[u32], at: usize) -> u32
+    ensures { result ≡ get_or numbers.now at 0 }
+{
+    match numbers.get(at) {
+        None => 0,
+        Some(number) => *number,
     }
 }
 

@@ -36,6 +36,15 @@ impl<T> Table<T> {
         }
     }
 
+    /// No items, with room for so many.
+    pub fn with_room(alloc: Global, room: usize) -> Result<Table<T>, Memory>
+        ensures items { IfOk result (λ table. table.items ≡ []) }
+        ensures room { IfOk result (λ table. room ≤ table.spare) }
+    {
+        let items = Vec::with_capacity(alloc, room)?;
+        Ok(Table { items })
+    }
+
     /// Room for one more item. `Memory` where there is none for it leaves the items as they were.
     pub fn reserve(&mut self) -> Result<(), Memory>
         ensures items { self.new.items ≡ self.old.items }

@@ -103,10 +103,6 @@ each_once-inserted done b v e =
     push_unless v (each_once done) b
     ∙ sym (each_once-push done b ∙ ap (λ w. each_once done ++ cond w [] (b ∷ [])) (sym (is_in-each_once done b) ∙ e))
 
-pub unless_not : (v w : Bool) → w ≡ not v → v ≡ not w
-unless_not true w e = ap not (sym e)
-unless_not false w e = ap not (sym e)
-
 -- what all numbers have, those have that are left
 pub All-each_once : (P : ℕ → Type 0) (xs : List ℕ) → All P xs → All P (each_once xs)
 All-each_once P [] h = h

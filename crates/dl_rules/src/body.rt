@@ -71,11 +71,12 @@ impl BodyNumbers {
     }
 
     /// An equal body.
+    #[inline(always)]
     pub fn copy(&self, alloc: Global) -> Result<BodyNumbers, Memory>
         ensures { IfOk result (λ copy. copy ≡ self.now) }
     {
         let form = match &self.form {
-            Form::Plain(numbers) => Form::Plain(Row::of(alloc, numbers.as_slice())?),
+            Form::Plain(numbers) => Form::Plain(numbers.copy()?),
             Form::Repeating(lists) => Form::Repeating(repeats_of(alloc, lists)?),
         };
         Ok(BodyNumbers { form })
@@ -108,7 +109,7 @@ fn repeats_of(alloc: Global, lists: &Repeats) -> Result<Box<Repeats>, Memory>
     ensures body { IfOk result (λ copy. copy.value.body.items ≡ lists.now.body.items) }
     ensures once { IfOk result (λ copy. copy.value.once.items ≡ lists.now.once.items) }
 {
-    let body = Row::of(alloc, lists.body.as_slice())?;
-    let once = Row::of(alloc, lists.once.as_slice())?;
+    let body = lists.body.copy()?;
+    let once = lists.once.copy()?;
     Ok(Box::new(alloc, Repeats { body, once })?)
 }

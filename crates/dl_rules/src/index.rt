@@ -4,7 +4,7 @@
 //! that the list of rules is that of the numbers that are not empty, in ascending order. No other rule's number, body or list
 //! changes. An index most of whose numbers are empty is made anew by the net.
 
-ghost use Rattle.std.specs.Prelude.{◌≡◌, ℕ, ◌+◌, ◌<◌, ◌≤◌, ◌^◌, ◌↔◌, [], ◌∷◌, ◌++◌, All, IsTrue, Some, None, IsSome, is_some, IfSome, IfOk, OnOk, OnErr, option_map, option_to_list, length, filter, slice_get, get_or, set, map};
+ghost use Rattle.std.specs.Prelude.{◌≡◌, ℕ, ◌+◌, ◌<◌, ◌≤◌, ◌^◌, [], ◌∷◌, ◌++◌, All, Some, None, IsSome, is_some, IfSome, IfOk, OnOk, OnErr, option_map, option_to_list, length, filter, slice_get, get_or, set, map};
 ghost use Rattle.dl_theory.specs.Lists.{can_support};
 ghost use Rattle.dl_rows.specs.Counting.{each_once};
 ghost use Rattle.dl_rows.specs.Rows.{places, row};
@@ -284,17 +284,6 @@ impl Index {
         self.uppers.remove(lower, upper as u32);
     }
 
-    /// Whether more numbers are empty than there are rules and literals together.
-    pub fn is_sparse(&self) -> bool
-        ensures { IsTrue result ↔ (length (there self.now.lines) + length (there self.now.lines) + self.now.width < length self.now.lines) }
-    {
-        let empty = self.lines.len() - self.live;
-        if empty <= self.live {
-            return false;
-        }
-        empty - self.live > self.heads.len()
-    }
-
     /// How many numbers there are, with those that are empty.
     pub fn len(&self) -> usize
         ensures { result ≡ length self.now.lines }
@@ -487,13 +476,6 @@ impl Index {
         ensures { result ≡ length (list_of self.now.lowers rule) }
     {
         self.lowers.count(rule)
-    }
-
-    /// The number at a place among those of the rules above one.
-    pub fn upper_at(&self, rule: usize, at: usize) -> Option<usize>
-        ensures { result ≡ slice_get (list_of self.now.uppers rule) at }
-    {
-        number_at(&self.uppers, rule, at)
     }
 
     /// How many rules stand above one.

@@ -193,10 +193,9 @@ fn copied_bodies(bodies: &Table<BodyNumbers>) -> Result<Table<BodyNumbers>, Memo
     ensures { IfOk result (λ copy. copy.items ≡ bodies.now.items) }
 {
     let alloc = bodies.alloc();
-    let mut copy = Table::make(alloc);
+    let mut copy = Table::with_room(alloc, bodies.len())?;
     for at in 0..bodies.len() {
         let body = bodies.at(at).copy(alloc)?;
-        copy.reserve()?;
         copy.push(body);
     }
     Ok(copy)

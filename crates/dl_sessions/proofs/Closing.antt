@@ -12,7 +12,7 @@ use Rattle.dl_calls.specs.declared.reply.Reply.TheVariants.{Enrolled}
 use Rattle.dl_calls.specs.declared.entry.Entry.{Entry}
 use Rattle.dl_calls.specs.Histories.{IsLegal, state_after, enrolled_seats}
 use Rattle.dl_calls.proofs.Runs.{editions_stay}
-use Rattle.dl_edition.specs.Offices.{SeatLists, Stays, HasCalled}
+use Rattle.dl_desk.specs.Offices.{SeatLists, Stays, HasCalled}
 use Rattle.dl_session.specs.declared.end.End.{End}
 use Rattle.dl_session.specs.Ends.{IsSession}
 use Rattle.dl_session.specs.Laws.{EndsStay}

@@ -5,7 +5,7 @@ use Rattle.dl_theory.specs.Lists.{TheoryLists}
 use Rattle.dl_turn.specs.History.{StartsWith, HasLines}
 use Rattle.dl_calls.specs.declared.entry.Entry.{Entry}
 use Rattle.dl_calls.specs.Histories.{IsLegal}
-use Rattle.dl_edition.specs.Offices.{SeatLists, MayCall}
+use Rattle.dl_desk.specs.Offices.{SeatLists, MayCall}
 use Rattle.dl_session.specs.declared.end.End.{End}
 use Rattle.dl_session.specs.Ends.{IsSession, HasCause}
 use Rattle.dl_sessions.specs.Halls.{IsEnrolled}

@@ -2,7 +2,7 @@
 use Rattle.std.specs.Prelude.{◌≡◌, ℕ, ◌+◌, List, [], ◌∷◌, length, Some, None}
 use Rattle.atomic_table.specs.Seated.{TableId}
 use Rattle.dl_theory.specs.Lists.{TheoryLists}
-use Rattle.dl_edition.specs.Offices.{SeatLists}
+use Rattle.dl_desk.specs.Offices.{SeatLists}
 use Rattle.dl_sessions.specs.Served.{enrolment}
 
 -- the theory that the history begins from, and how many sessions are to come

@@ -1,10 +1,9 @@
 //! A session to be served, as a job.
 
 ghost use Rattle.std.specs.Prelude.{◌≡◌};
-ghost use Rattle.dl_edition.specs.Offices.{MayCall};
+ghost use Rattle.dl_desk.specs.Offices.{MayCall};
 
-use dl_board::Board;
-use dl_desk::Desk;
+use dl_desk::{Board, Desk};
 use dl_io::{Sink, Source};
 use dl_serve::Job;
 use dl_session::{End, Workroom, serve_session};

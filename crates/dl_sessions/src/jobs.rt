@@ -4,8 +4,7 @@ ghost use Rattle.std.specs.Prelude.{◌≡◌, ◌≤◌, [], All, map, vec_len,
 ghost use Rattle.dl_sessions.specs.Ending.{MayServe};
 
 use crate::job::SessionJob;
-use dl_board::Board;
-use dl_desk::Desk;
+use dl_desk::{Board, Desk};
 use dl_io::{Sink, Source};
 use dl_session::Workroom;
 use dl_turn::Seat;

@@ -7,8 +7,7 @@ ghost use Rattle.dl_sessions.specs.Served.{told, AllAt};
 
 use crate::job::Ended;
 use crate::session::Session;
-use dl_board::Board;
-use dl_desk::Desk;
+use dl_desk::{Board, Desk};
 use dl_io::{Sink, Source};
 use dl_session::ends_stay;
 use dl_turn::Seat;

@@ -14,5 +14,6 @@ mod serve;
 mod session;
 
 pub use dl_base::Memory;
+pub use dl_desk::Board;
 pub use hall::Hall;
 pub use session::{Served, Session};

@@ -1,6 +1,6 @@
 //! What is left of sessions.
 
-use dl_board::Board;
+use dl_desk::Board;
 use dl_io::{Sink, Source};
 use dl_session::End;
 use std::sync::ledger::Ledger;

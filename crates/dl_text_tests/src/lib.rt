@@ -1,6 +1,6 @@
 //! Tests of bytes, lines, numbers and texts, and of what they say: streams, lines of sources, orders, rows and regions, lists in pages,
-//! rules, labels, facts and pairs by number, marks, names and literals, pairs of literals, what is read from texts and asked by lines,
-//! and theories under edits. Nothing here concludes.
+//! rules, labels, facts and pairs by number, marks, names and literals, pairs of literals, literals by number, what is read from texts and
+//! asked by lines, and theories under edits. Nothing here concludes.
 //!
 //! They are apart from what they test, since a crate with tests is proved twice, with them and without. Each file is about one subject.
 #![tactic(auto)]
@@ -13,6 +13,8 @@ mod lists;
 mod literals;
 #[cfg(test)]
 mod marks;
+#[cfg(test)]
+mod numbers;
 #[cfg(test)]
 mod orders;
 #[cfg(test)]

@@ -1,6 +1,6 @@
 //! Labels, facts and pairs by numbers that never move.
 
-ghost use Rattle.std.specs.Prelude.{◌<◌};
+ghost use Rattle.std.specs.Prelude.{◌≡◌, ◌<◌, None, true};
 
 use dl_lists::{FactNumbers, PairNumbers, RuleLabels};
 use dl_lit::{Name, name_set};
@@ -77,9 +77,86 @@ fn a_forgotten_label_is_not_there(rt: HostRuntime) {
     assert_eq!(rt; labels.len(), 1);
 }
 
+/// Labels `x0`, `x1` .. are added, from one number up to another; says whether all were new.
+fn add_numbered(
+    rt: &impl Abort,
+    alloc: Global,
+    labels: &mut RuleLabels,
+    from: usize,
+    to: usize,
+) -> bool
+    requires { labels.old.ready ≡ None }
+    ensures { labels.new.ready ≡ None }
+{
+    let mut all = true;
+    for number in from..to {
+        let label = numbered(rt, alloc, number);
+        all = labels.add(label).expect(rt, "room") && all;
+    }
+    all
+}
+
+/// The label with a number.
+fn numbered(rt: &impl Abort, alloc: Global, number: usize) -> Name {
+    let text = format!(in alloc; "x{number}").expect(rt, "room");
+    name_of(rt, alloc, &text)
+}
+
+#[test]
+fn frozen_labels_are_found_in_each_copy(rt: HostRuntime) {
+    let mut labels = RuleLabels::make(rt.alloc());
+    assert!(rt; add_numbered(&rt, rt.alloc(), &mut labels, 0, 20));
+    labels.freeze();
+    let copy = labels.copy().expect(&rt, "room");
+    let old = numbered(&rt, rt.alloc(), 7);
+    let new = numbered(&rt, rt.alloc(), 20);
+    assert!(rt;
+        !labels
+            .add(old.copy().expect(&rt, "room"))
+            .expect(&rt, "room")
+    );
+    assert!(rt;
+        labels
+            .add(new.copy().expect(&rt, "room"))
+            .expect(&rt, "room")
+    );
+    assert_eq!(rt; labels.find(&old), Some(7));
+    assert_eq!(rt; labels.find(&new), Some(20));
+    assert_eq!(rt; copy.find(&old), Some(7));
+    assert!(rt; copy.find(&new).is_none());
+    assert_eq!(rt; copy.len(), 20);
+}
+
+#[test]
+fn many_labels_after_a_freeze_are_joined_with_those_before(rt: HostRuntime) {
+    let mut labels = RuleLabels::make(rt.alloc());
+    assert!(rt; add_numbered(&rt, rt.alloc(), &mut labels, 0, 20));
+    labels.freeze();
+    assert!(rt; add_numbered(&rt, rt.alloc(), &mut labels, 20, 30));
+    labels.freeze();
+    assert!(rt; add_numbered(&rt, rt.alloc(), &mut labels, 30, 31));
+    labels.freeze();
+    for number in [0, 19, 20, 29, 30] {
+        let label = numbered(&rt, rt.alloc(), number);
+        assert_eq!(rt; labels.find(&label), Some(number));
+        if number < labels.len() {
+            assert!(rt; *labels.label(number) == label);
+        }
+    }
+    let again = numbered(&rt, rt.alloc(), 25);
+    labels.prepare(&again).expect(&rt, "room");
+    labels.put();
+    assert_eq!(rt; labels.find(&again), Some(31));
+    let absent = numbered(&rt, rt.alloc(), 31);
+    labels.prepare(&absent).expect(&rt, "room");
+    labels.forget();
+    assert!(rt; labels.find(&absent).is_none());
+}
+
 /// A literal becomes a fact, where it is none; says its number.
 fn fact_of(rt: &impl Abort, facts: &mut FactNumbers, literal: usize) -> usize
     requires { literal < 100 }
+    ensures { facts.new.placed ≡ true }
 {
     facts.prepare_places().expect(rt, "room");
     facts.reserve(100).expect(rt, "room");
@@ -110,7 +187,9 @@ fn a_fact_that_comes_again_has_another_number(rt: HostRuntime) {
     assert_eq!(rt; facts.live(), 1);
     assert_eq!(rt; fact_of(&rt, &mut facts, 7), 2);
     expect_facts(&rt, &facts);
-    expect_facts(&rt, &facts.copy().expect(&rt, "room"));
+    let copy = facts.copy().expect(&rt, "room");
+    expect_facts(&rt, &copy);
+    assert_eq!(rt; copy.place(7), Some(2));
 }
 
 #[test]
@@ -143,7 +222,9 @@ fn pair_of(rt: &impl Abort, pairs: &mut PairNumbers, upper: usize, lower: usize)
 }
 
 /// The number of a pair, found by its rules.
-fn place_of(rt: &impl Abort, pairs: &mut PairNumbers, upper: usize, lower: usize) -> Option<usize> {
+fn place_of(rt: &impl Abort, pairs: &mut PairNumbers, upper: usize, lower: usize) -> Option<usize>
+    ensures { pairs.new.placed ≡ true }
+{
     pairs.prepare_places().expect(rt, "room");
     pairs.place(Link { upper, lower })
 }
@@ -200,6 +281,7 @@ fn a_pair_that_comes_again_has_another_number(rt: HostRuntime) {
     let copy = pairs.copy().expect(&rt, "room");
     assert_eq!(rt; copy.len(), 2);
     assert_eq!(rt; copy.at(1), Some(Link { upper: 1, lower: 2 }));
+    assert_eq!(rt; copy.place(Link { upper: 1, lower: 2 }), Some(1));
 }
 
 #[test]

@@ -32,7 +32,7 @@ pub struct Draft {
     net: Net,
     families: Families,
     marks: Marks,
-    /// Room for the fills after an edit.
+    /// Room for the fills after an edit. The first edit makes it: what is only loaded and read has none.
     works: Works,
     /// The cone of the last edit. It is kept for its room, so that an edit clears and fills no more than its own cone.
     cone: Region,
@@ -87,14 +87,13 @@ impl Draft {
         ensures inclusive { OnOk result (IsInclusive net.theory) }
     {
         let _names = net.graph().names();
-        let mut works = Works::make(alloc);
-        let marks = marks_in(alloc, &net.graph(), families, &mut works, steps)?;
+        let marks = marks_in(alloc, &net.graph(), families, steps)?;
         Ok(Draft {
             alloc,
             net,
             families,
             marks,
-            works,
+            works: Works::make(alloc),
             cone: Region::none(alloc),
             frozen: false,
         })

@@ -25,7 +25,7 @@ use dl_prop::PropGates;
 use std::alloc::Global;
 use std::sync::ledger::Ledger;
 
-/// Sets the marks of the families of a table, with room of its own. `Memory` where there is none for that.
+/// Sets the marks of the families of a table, with room of its own that goes at the end. `Memory` where there is none for that.
 fn fill_alone<G: FamilyGates, L: Ledger>(
     alloc: Global,
     gates: &G,
@@ -111,19 +111,20 @@ pub fn fill_all<L: Ledger>(
 
 /// Marks that are right in all families, with a place for each name. `Memory` where there is none for the marks or for
 /// the fills.
+///
+/// A fill of all names counts in several times the bytes of the marks. So the rooms are made one after another, and none is kept:
+/// the most that stands at once is the largest of them, and a draft that is never edited has none.
 fn all_marks<L: Ledger>(
     alloc: Global,
     net: &Graph<'_>,
-    works: &mut Works,
     steps: &mut Steps<L>,
 ) -> Result<Marks, Memory>
     ensures { IfOk result (λ marks. AreRight net.now.theory net.now.names (places marks) (stands marks)) }
 {
-    let names = net.names();
-    let region = everywhere(alloc, names)?;
-    let mut marks = no_marks(alloc, net, &region, steps)?;
-    works.reserve(net.rule_numbers(), names)?;
-    fill_all(net, &region, works, &mut marks, steps);
+    let region = everywhere(alloc, net.names())?;
+    let mut marks = begun(alloc, net, &region, steps)?;
+    fill_alone(alloc, &BlockGates, net, &region, &mut marks, steps)?;
+    fill_alone(alloc, &PropGates, net, &region, &mut marks, steps)?;
     Ok(marks)
 }
 
@@ -132,13 +133,12 @@ pub fn marks_in<L: Ledger>(
     alloc: Global,
     net: &Graph<'_>,
     families: Families,
-    works: &mut Works,
     steps: &mut Steps<L>,
 ) -> Result<Marks, Memory>
     ensures { IfOk result (AreRightIn families net.now.theory net.now.names) }
 {
     match families {
-        Families::All => all_marks(alloc, net, works, steps),
+        Families::All => all_marks(alloc, net, steps),
         Families::One(family) => family_marks(alloc, net, family, steps),
     }
 }

@@ -16,8 +16,7 @@ returns-clause-survey g c =
     let list = c.as_slice-list.result.now in
     let listed = subst (λ (l : List Conclusion). AreLiterals T (map (λ q. q.literal) l)) (sym c.as_slice-list.ensures) c.in_ok-literals.ensures.listed in
     subst (λ (U : TheoryLists). IsSurvey U c.in_ok-survey.survey) c.requires
-    (is_survey T (map (λ q. q.literal) list) c.in_ok-definite.definite.items c.in_ok-blocking.blocking.items c.in_ok-propagating.propagating.items
-    c.in_ok-support.support.items c.in_ok-definite.ensures c.in_ok-blocking.ensures c.in_ok-propagating.ensures c.in_ok-support.ensures
+    (is_survey T (map (λ q. q.literal) list) c.in_ok-each.each.items c.in_ok-each.ensures c.in_ok-families.families c.in_ok-families.ensures
     c.in_ok-survey.survey c.in_ok-survey.ensures listed)
 
 pub returns-clause-nested : goal.returns-clause-nested
@@ -25,8 +24,7 @@ returns-clause-nested g c =
     let T = c.args.held.now.theory in
     let list = c.as_slice-list.result.now in
     let formed = c.facts_len-formed.ensures.well_formed in
-    is_nested T (map (λ q. q.literal) list) c.in_ok-definite.definite.items c.in_ok-blocking.blocking.items c.in_ok-propagating.propagating.items
-    c.in_ok-support.support.items c.in_ok-definite.ensures c.in_ok-blocking.ensures c.in_ok-propagating.ensures c.in_ok-support.ensures
+    is_nested T (map (λ q. q.literal) list) c.in_ok-each.each.items c.in_ok-each.ensures c.in_ok-families.families c.in_ok-families.ensures
     c.in_ok-survey.survey c.in_ok-survey.ensures (subst IsInclusive (sym c.requires) (is_inclusive c.args.theory.now formed.acyclic))
 
 pub returns-clause-coherent : goal.returns-clause-coherent

@@ -1,40 +1,37 @@
-use Rattle.std.proofs.Common.{List, Bor, ap, sym, subst, ◌∙◌, arith, take_all}
-use Rattle.std.specs.Prelude.{Option}
-use Rattle.std.specs.Option.{option_copied}
-use Rattle.dl_calls.specs.declared.entry.Entry.{Entry}
-use Rattle.dl_edition.proofs.Writing.{never_past}
-use Rattle.dl_theory.specs.Lists.{TheoryLists}
-use Rattle.dl_gen.specs.Replaying.{MayFollow, IsReplay}
-use Rattle.dl_gen.proofs.Replayed.{entry_follows, replayed_more, count_few}
-use Rattle.dl_gen.specs.Summary.{is_edited, is_edit_refused}
+use Rattle.std.proofs.Common.{List, map-id, sym, subst, refl, ◌∙◌, rules, arith}
+use Rattle.std.proofs.lemmas.Iterator.Consumers.{YieldsList-turn, YieldsList-end}
+use Rattle.std.proofs.lemmas.Iterator.Adapters.{YieldsList-from_vec}
+use Rattle.dl_calls.specs.declared.call.Call.{Call}
+use Rattle.dl_gen.specs.Replaying.{Replays}
+use Rattle.dl_gen.proofs.Replayed.{replays_none, replays_more, few_more}
 use Rattle.dl_gen.proofs.replay.Replay.of.Goals as goal
 
-pub unreachable-requires : goal.unreachable-requires
-unreachable-requires g c =
-    never_past c.args.board.now.history c.loop-at.at (omega (arith, c.loop-at-test.true, c.entries-at-end.ensures.len))
-    (ap (λ (o : Option (Bor Entry)). option_copied o) (sym c.in-None.is) ∙ c.entry.ensures)
-
-pub take-requires-clause-follows : goal.take-requires-clause-follows
-take-requires-clause-follows g c =
-    let here = sym c.entry.ensures ∙ ap (λ (o : Option (Bor Entry)). option_copied o) c.in-Some.is in
-    subst (λ (T : TheoryLists). MayFollow T c.in-Some.entry.now.call c.in-Some.entry.now.reply) (sym c.loop-at.invariant.draft)
-    (entry_follows c.args.board.now.start c.args.board.now.history c.loop-at.at c.in-Some.entry.now here c.entries-at-end.ensures.legal)
+pub loop-call-init : goal.loop-call-init
+loop-call-init c = record { few = omega arith; replays = replays_none c.args.theory _ refl refl refl }
 
 pub take-requires-clause-accepted : goal.take-requires-clause-accepted
-take-requires-clause-accepted g c =
-    omega (arith, c.loop-at.invariant.accepted, count_few is_edited c.args.board.now.history c.loop-at.at (omega (arith, c.loop-at-test.true, c.entries-at-end.ensures.len)), c.loop-at-test.true)
+take-requires-clause-accepted c =
+    let loop = c.loop-call in
+    let road = YieldsList-from_vec {s = c.into_iter-call-iterator.result} c.args.calls.items (search rules) (search rules) in
+    let turn = YieldsList-turn road loop.yielded loop.call-iterator loop.yielded_by c.next.result c.next.new.self c.in-Some.call c.in-Some.is c.next.ensures.steps in
+    omega (arith, loop.invariant.few, turn.0, c.args.calls.ok.0)
 
 pub take-requires-clause-refused : goal.take-requires-clause-refused
-take-requires-clause-refused g c =
-    omega (arith, c.loop-at.invariant.refused, count_few is_edit_refused c.args.board.now.history c.loop-at.at (omega (arith, c.loop-at-test.true, c.entries-at-end.ensures.len)), c.loop-at-test.true)
+take-requires-clause-refused c =
+    let loop = c.loop-call in
+    let road = YieldsList-from_vec {s = c.into_iter-call-iterator.result} c.args.calls.items (search rules) (search rules) in
+    let turn = YieldsList-turn road loop.yielded loop.call-iterator loop.yielded_by c.next.result c.next.new.self c.in-Some.call c.in-Some.is c.next.ensures.steps in
+    omega (arith, loop.invariant.few, turn.0, c.args.calls.ok.0)
 
-pub loop-at-preserved : goal.loop-at-preserved
-loop-at-preserved g c =
-    let here = sym c.entry.ensures ∙ ap (λ (o : Option (Bor Entry)). option_copied o) c.in-Some.is in
-    let taken = c.in_ok-take-in-Some.ensures in
-    replayed_more c.args.board.now.start c.args.board.now.history c.loop-at.at c.in-Some.entry.now here _ _ c.loop-at.invariant taken.accepted taken.refused taken.draft
+pub loop-call-preserved : goal.loop-call-preserved
+loop-call-preserved c = record {
+  few = few_more _ _ c.in-Some.call c.loop-call.yielded c.in_ok-take.ensures c.loop-call.invariant.few;
+  replays = replays_more _ c.loop-call.yielded c.in-Some.call _ _ c.loop-call.invariant.replays c.in_ok-take.ensures;
+}
 
 pub returns : goal.returns
-returns g c =
-    subst (λ (l : List Entry). IsReplay c.args.board.now.start l c.loop-at.replay)
-    (take_all c.loop-at.at c.args.board.now.history (omega (arith, c.loop-at-test.false, c.entries-at-end.ensures.len))) c.loop-at.invariant
+returns c =
+    let loop = c.loop-call in
+    let road = YieldsList-from_vec {s = c.into_iter-call-iterator.result} c.args.calls.items (search rules) (search rules) in
+    let end = YieldsList-end road loop.yielded loop.call-iterator loop.yielded_by c.next.result c.next.new.self c.in-None.is c.next.ensures.steps in
+    subst (λ (l : List Call). Replays c.args.theory l loop.replay) (sym (map-id loop.yielded) ∙ end.0) loop.invariant.replays

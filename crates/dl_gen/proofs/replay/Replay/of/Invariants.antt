@@ -1,6 +1,9 @@
-use Rattle.std.proofs.Common.{take}
-use Rattle.dl_gen.specs.Replaying.{IsReplay}
+use Rattle.std.proofs.Common.{◌+◌, ◌≤◌, length}
+use Rattle.dl_gen.specs.Replaying.{Replays}
 use Rattle.dl_gen.proofs.replay.Replay.of.Given as goal
 
-abbrev pub invariant-loop-at : goal.invariant-loop-at
-invariant-loop-at g l = IsReplay l.board.start (take l.at l.board.history) l.replay
+abbrev pub invariant-loop-call : goal.invariant-loop-call
+invariant-loop-call l = record {
+  few : l.replay.accepted + l.replay.refused ≤ length l.yielded;
+  replays : Replays l.initial.replay.draft l.yielded l.replay;
+}

@@ -1,7 +1,6 @@
-use Rattle.std.proofs.Common.{◌≡◌, ◌*◌, ◌++◌, ◌∷◌, [], ℕ, List, Option, Some, false, length, sym, ap, subst, ◌∙◌, arith}
+use Rattle.std.proofs.Common.{◌≡◌, ◌*◌, ◌++◌, ◌∷◌, [], ℕ, List, Option, Some, false, length, sym, ap, subst, ◌∙◌}
 use Rattle.std.specs.Prelude.{Contains, IfSome}
 use Rattle.std.specs.List.{list_any}
-use Rattle.std.proofs.lemmas.List.{length-append}
 use Rattle.dl_base.specs.Paths.{IsDistinct}
 use Rattle.dl_lit.specs.declared.literal.Literal.{Literal}
 use Rattle.dl_lit.specs.Literal.{complement}
@@ -26,7 +25,6 @@ invariant_of-self-2 c =
     record {
       distinct = subst (λ (ls : List Literal). IsDistinct ls) (sym (added_pair ps c.put.new.self q added))
           (both_distinct (pairs_of ps) q (pairs_paired ps) c.self.invariant.distinct none);
-      few = omega (arith, ap length added, length-append ps (q ∷ []), c.len.ensures, c.if-len-ge-PAIR_LIMIT.false);
     }
 
 pub returns-clause-absent : goal.returns-clause-absent

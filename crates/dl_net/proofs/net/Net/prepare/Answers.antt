@@ -17,6 +17,7 @@ invariant_of-self-2 c =
     let thawed : c.self.inside.frozen ≡ false = ap (λ (N : NetLists). N.frozen) (c.self.view_is ∙ c.forget.ensures) in
     record {
       kept = c.in_ok-prepare.ensures.keeps.kept;
+      beside = c.in_ok-prepare.ensures.beside;
       pending = subst (λ (e : Edit). HasPending (tables_in c.prepare.new.self) (Some e)) (sym c.in_ok-copy-2.ensures) (accepted, c.in_ok-prepare.ensures.room);
       owned = λ _. c.in_ok-prepare.ensures.own;
       frozen = λ e. absurd (true≢false (sym e ∙ thawed));

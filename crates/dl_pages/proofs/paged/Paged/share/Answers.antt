@@ -1,4 +1,4 @@
-use Rattle.std.proofs.Common.{◌≡◌, take, sym, ap, subst₂, ◌∙◌, arith}
+use Rattle.std.proofs.Common.{◌≡◌, Bool, false, List, get_or, take, sym, ap, subst₂, ◌∙◌, arith}
 use Rattle.dl_pages.specs.Pages.{parts, AreListed}
 use Rattle.dl_pages.proofs.PagedLemmas.{items_frozen, kept_frozen, shared_here, listed_shared, owned_shared}
 use Rattle.dl_pages.proofs.paged.Paged.share.Goals as goal
@@ -23,9 +23,19 @@ returns-clause-items g c =
     items_frozen c.self.inside.pages.items c.self.inside.owned.items c.self.inside.len c.self.inside.spare c.args.self.now c.self.invariant c.self.view_is c.div_ceil-used.result (omega (arith, c.div_ceil-used.ensures)) (omega (arith, c.div_ceil-used.ensures))
     c.loop-number.pages.items (ap parts same)
 
+pub returns-clause-owned : goal.returns-clause-owned
+returns-clause-owned g c =
+    let all : c.loop-number.number ≡ c.div_ceil-used.result = omega arith in
+    let same = c.loop-number.invariant ∙ ap (λ n. take n c.self.inside.pages.items) all in
+    owned_shared c.self.inside.pages.items c.self.inside.owned.items c.self.inside.len c.self.inside.spare c.args.self.now c.self.invariant c.self.view_is c.div_ceil-used.result (omega (arith, c.div_ceil-used.ensures)) (omega (arith, c.div_ceil-used.ensures))
+    c.loop-number.pages.items same
+
 pub returns-clause-shared : goal.returns-clause-shared
 returns-clause-shared g c =
     let all : c.loop-number.number ≡ c.div_ceil-used.result = omega arith in
     let same = c.loop-number.invariant ∙ ap (λ n. take n c.self.inside.pages.items) all in
-    owned_shared c.self.inside.pages.items c.self.inside.owned.items c.self.inside.len c.self.inside.spare c.args.self.now c.self.invariant c.self.view_is c.div_ceil-used.result (omega (arith, c.div_ceil-used.ensures)) (omega (arith, c.div_ceil-used.ensures))
-    c.loop-number.pages.items same c.requires
+    λ at.
+    ap (λ (bs : List Bool). get_or bs at false)
+    (owned_shared c.self.inside.pages.items c.self.inside.owned.items c.self.inside.len c.self.inside.spare c.args.self.now c.self.invariant c.self.view_is c.div_ceil-used.result (omega (arith, c.div_ceil-used.ensures)) (omega (arith, c.div_ceil-used.ensures))
+    c.loop-number.pages.items same)
+    ∙ c.requires at

@@ -1,5 +1,0 @@
-use Rattle.std.proofs.Common.{◌≡◌, map, take}
-use Rattle.dl_rows.proofs.open_rows.OpenRows.copy.Given as goal
-
-abbrev pub invariant-loop-number : goal.invariant-loop-number
-invariant-loop-number l = record { lists : map (λ v. v.items) l.rows.items ≡ take l.number l.self.lists }
