@@ -26,13 +26,13 @@ fn source(rt: &impl Abort, alloc: Global, bytes: &[u8], fails: &[usize]) -> Memo
 /// The next answer is this line.
 fn is_line<S: Source>(rt: &impl Abort, reader: &mut LineReader, source: &mut S, line: &[u8]) {
     assert!(rt; reader.next_line(source) == Next::Line);
-    assert_eq!(rt; reader.line(), line);
+    assert!(rt; reader.line() == line);
 }
 
 /// The next answer is a line of so many bytes.
 fn has_length<S: Source>(rt: &impl Abort, reader: &mut LineReader, source: &mut S, length: usize) {
     assert!(rt; reader.next_line(source) == Next::Line);
-    assert_eq!(rt; reader.line().len(), length);
+    assert!(rt; reader.line().len() == length);
 }
 
 fn is_long<S: Source>(rt: &impl Abort, reader: &mut LineReader, source: &mut S) {
@@ -224,5 +224,5 @@ fn no_more_than_the_limit_is_read(rt: HostRuntime) {
     let mut source = Endless { given: 0 };
     let mut reader = reader(&rt, rt.alloc());
     is_over(&rt, &mut reader, &mut source, Ending::Limit);
-    assert_eq!(rt; source.given, MOST_BYTES);
+    assert!(rt; source.given == MOST_BYTES);
 }

@@ -15,36 +15,46 @@ fn name_of(rt: &impl Abort, alloc: Global, text: &str) -> Name {
     Name::make(alloc, text.as_bytes()).expect(rt, "a name")
 }
 
+/// A label goes last where no number has it; says whether it did.
+fn add(rt: &impl Abort, labels: &mut RuleLabels, label: &Name) -> bool
+    requires { labels.old.ready ≡ None }
+    ensures { labels.new.ready ≡ None }
+{
+    let label = label.copy().expect(rt, "room");
+    labels.add(label).expect(rt, "room")
+}
+
+/// A label goes last, which some number may have.
+fn put(rt: &impl Abort, labels: &mut RuleLabels, label: &Name)
+    requires { labels.old.ready ≡ None }
+    ensures { labels.new.ready ≡ None }
+{
+    labels.prepare(label).expect(rt, "room");
+    labels.put();
+}
+
+/// Whether a number is there and has this label.
+fn has_label(labels: &RuleLabels, number: usize, label: &Name) -> bool {
+    number < labels.len() && *labels.label(number) == *label
+}
+
 #[test]
 fn a_label_is_found_at_its_last_number(rt: HostRuntime) {
     let bird = name_of(&rt, rt.alloc(), "bird");
     let penguin = name_of(&rt, rt.alloc(), "penguin");
     let mut labels = RuleLabels::make(rt.alloc());
-    assert!(rt;
-        labels
-            .add(bird.copy().expect(&rt, "room"))
-            .expect(&rt, "room")
-    );
-    assert!(rt;
-        labels
-            .add(penguin.copy().expect(&rt, "room"))
-            .expect(&rt, "room")
-    );
-    assert!(rt;
-        !labels
-            .add(bird.copy().expect(&rt, "room"))
-            .expect(&rt, "room")
-    );
-    assert_eq!(rt; labels.find(&bird), Some(0));
-    labels.prepare(&bird).expect(&rt, "room");
-    labels.put();
-    assert_eq!(rt; labels.len(), 3);
-    assert_eq!(rt; labels.find(&bird), Some(2));
-    assert_eq!(rt; labels.find(&penguin), Some(1));
-    assert!(rt; *labels.label(0) == bird);
-    assert!(rt; *labels.label(2) == bird);
+    assert!(rt; add(&rt, &mut labels, &bird));
+    assert!(rt; add(&rt, &mut labels, &penguin));
+    assert!(rt; !add(&rt, &mut labels, &bird));
+    assert!(rt; labels.find(&bird) == Some(0));
+    put(&rt, &mut labels, &bird);
+    assert!(rt; labels.len() == 3);
+    assert!(rt; labels.find(&bird) == Some(2));
+    assert!(rt; labels.find(&penguin) == Some(1));
+    assert!(rt; has_label(&labels, 0, &bird));
+    assert!(rt; has_label(&labels, 2, &bird));
     let copy = labels.copy().expect(&rt, "room");
-    assert_eq!(rt; copy.find(&bird), Some(2));
+    assert!(rt; copy.find(&bird) == Some(2));
 }
 
 #[test]
@@ -58,11 +68,10 @@ fn names_are_taken_over_as_labels(rt: HostRuntime) {
     }
     assert!(rt; names.len() < 100);
     let mut labels = RuleLabels::of(names);
-    assert_eq!(rt; labels.len(), 2);
-    assert_eq!(rt; labels.find(&penguin), Some(1));
-    labels.prepare(&bird).expect(&rt, "room");
-    labels.put();
-    assert_eq!(rt; labels.find(&bird), Some(2));
+    assert!(rt; labels.len() == 2);
+    assert!(rt; labels.find(&penguin) == Some(1));
+    put(&rt, &mut labels, &bird);
+    assert!(rt; labels.find(&bird) == Some(2));
 }
 
 #[test]
@@ -71,10 +80,10 @@ fn a_forgotten_label_is_not_there(rt: HostRuntime) {
     let mut labels = RuleLabels::make(rt.alloc());
     labels.prepare(&bird).expect(&rt, "room");
     labels.forget();
-    assert_eq!(rt; labels.len(), 0);
+    assert!(rt; labels.len() == 0);
     assert!(rt; labels.find(&bird).is_none());
     assert!(rt; labels.add(bird).expect(&rt, "room"));
-    assert_eq!(rt; labels.len(), 1);
+    assert!(rt; labels.len() == 1);
 }
 
 /// Labels `x0`, `x1` .. are added, from one number up to another; says whether all were new.
@@ -110,21 +119,13 @@ fn frozen_labels_are_found_in_each_copy(rt: HostRuntime) {
     let copy = labels.copy().expect(&rt, "room");
     let old = numbered(&rt, rt.alloc(), 7);
     let new = numbered(&rt, rt.alloc(), 20);
-    assert!(rt;
-        !labels
-            .add(old.copy().expect(&rt, "room"))
-            .expect(&rt, "room")
-    );
-    assert!(rt;
-        labels
-            .add(new.copy().expect(&rt, "room"))
-            .expect(&rt, "room")
-    );
-    assert_eq!(rt; labels.find(&old), Some(7));
-    assert_eq!(rt; labels.find(&new), Some(20));
-    assert_eq!(rt; copy.find(&old), Some(7));
+    assert!(rt; !add(&rt, &mut labels, &old));
+    assert!(rt; add(&rt, &mut labels, &new));
+    assert!(rt; labels.find(&old) == Some(7));
+    assert!(rt; labels.find(&new) == Some(20));
+    assert!(rt; copy.find(&old) == Some(7));
     assert!(rt; copy.find(&new).is_none());
-    assert_eq!(rt; copy.len(), 20);
+    assert!(rt; copy.len() == 20);
 }
 
 #[test]
@@ -138,15 +139,12 @@ fn many_labels_after_a_freeze_are_joined_with_those_before(rt: HostRuntime) {
     labels.freeze();
     for number in [0, 19, 20, 29, 30] {
         let label = numbered(&rt, rt.alloc(), number);
-        assert_eq!(rt; labels.find(&label), Some(number));
-        if number < labels.len() {
-            assert!(rt; *labels.label(number) == label);
-        }
+        assert!(rt; labels.find(&label) == Some(number));
+        assert!(rt; has_label(&labels, number, &label));
     }
     let again = numbered(&rt, rt.alloc(), 25);
-    labels.prepare(&again).expect(&rt, "room");
-    labels.put();
-    assert_eq!(rt; labels.find(&again), Some(31));
+    put(&rt, &mut labels, &again);
+    assert!(rt; labels.find(&again) == Some(31));
     let absent = numbered(&rt, rt.alloc(), 31);
     labels.prepare(&absent).expect(&rt, "room");
     labels.forget();
@@ -179,17 +177,17 @@ fn drop_fact(facts: &mut FactNumbers, number: usize) {
 #[test]
 fn a_fact_that_comes_again_has_another_number(rt: HostRuntime) {
     let mut facts = FactNumbers::make(rt.alloc());
-    assert_eq!(rt; fact_of(&rt, &mut facts, 7), 0);
-    assert_eq!(rt; fact_of(&rt, &mut facts, 3), 1);
-    assert_eq!(rt; fact_of(&rt, &mut facts, 7), 0);
-    assert_eq!(rt; facts.len(), 2);
+    assert!(rt; fact_of(&rt, &mut facts, 7) == 0);
+    assert!(rt; fact_of(&rt, &mut facts, 3) == 1);
+    assert!(rt; fact_of(&rt, &mut facts, 7) == 0);
+    assert!(rt; facts.len() == 2);
     drop_fact(&mut facts, 0);
-    assert_eq!(rt; facts.live(), 1);
-    assert_eq!(rt; fact_of(&rt, &mut facts, 7), 2);
+    assert!(rt; facts.live() == 1);
+    assert!(rt; fact_of(&rt, &mut facts, 7) == 2);
     expect_facts(&rt, &facts);
     let copy = facts.copy().expect(&rt, "room");
     expect_facts(&rt, &copy);
-    assert_eq!(rt; copy.place(7), Some(2));
+    assert!(rt; copy.place(7) == Some(2));
 }
 
 #[test]
@@ -198,19 +196,19 @@ fn literals_are_taken_over_as_facts(rt: HostRuntime) {
     literals.reserve().expect(&rt, "room");
     literals.push(7);
     let mut facts = FactNumbers::of(literals, 8);
-    assert_eq!(rt; facts.live(), 1);
-    assert_eq!(rt; facts.at(0), Some(7));
-    assert_eq!(rt; fact_of(&rt, &mut facts, 7), 0);
-    assert_eq!(rt; fact_of(&rt, &mut facts, 9), 1);
+    assert!(rt; facts.live() == 1);
+    assert!(rt; facts.at(0) == Some(7));
+    assert!(rt; fact_of(&rt, &mut facts, 7) == 0);
+    assert!(rt; fact_of(&rt, &mut facts, 9) == 1);
 }
 
 /// The first fact has gone, and came again behind another.
 fn expect_facts(rt: &impl Abort, facts: &FactNumbers) {
-    assert_eq!(rt; facts.live(), 2);
-    assert_eq!(rt; facts.at(0), None);
-    assert_eq!(rt; facts.at(1), Some(3));
-    assert_eq!(rt; facts.at(2), Some(7));
-    assert_eq!(rt; facts.at(3), None);
+    assert!(rt; facts.live() == 2);
+    assert!(rt; facts.at(0).is_none());
+    assert!(rt; facts.at(1) == Some(3));
+    assert!(rt; facts.at(2) == Some(7));
+    assert!(rt; facts.at(3).is_none());
 }
 
 /// A pair goes last; says its number.
@@ -245,43 +243,43 @@ fn drop_rule(rt: &impl Abort, pairs: &mut PairNumbers, rule: usize) {
 #[test]
 fn all_pairs_of_a_rule_go(rt: HostRuntime) {
     let mut pairs = PairNumbers::make(rt.alloc());
-    assert_eq!(rt; pair_of(&rt, &mut pairs, 1, 2), 0);
-    assert_eq!(rt; pair_of(&rt, &mut pairs, 2, 3), 1);
+    assert!(rt; pair_of(&rt, &mut pairs, 1, 2) == 0);
+    assert!(rt; pair_of(&rt, &mut pairs, 2, 3) == 1);
     pairs.prepare_places().expect(&rt, "room");
-    assert_eq!(rt; pair_of(&rt, &mut pairs, 3, 1), 2);
-    assert_eq!(rt; pair_of(&rt, &mut pairs, 2, 2), 3);
+    assert!(rt; pair_of(&rt, &mut pairs, 3, 1) == 2);
+    assert!(rt; pair_of(&rt, &mut pairs, 2, 2) == 3);
     drop_rule(&rt, &mut pairs, 2);
-    assert_eq!(rt; pairs.live(), 1);
-    assert_eq!(rt; pairs.len(), 4);
-    assert_eq!(rt; pairs.at(0), None);
-    assert_eq!(rt; pairs.at(1), None);
-    assert_eq!(rt; pairs.at(2), Some(Link { upper: 3, lower: 1 }));
-    assert_eq!(rt; pairs.at(3), None);
-    assert_eq!(rt; place_of(&rt, &mut pairs, 3, 1), Some(2));
-    assert_eq!(rt; place_of(&rt, &mut pairs, 1, 3), None);
+    assert!(rt; pairs.live() == 1);
+    assert!(rt; pairs.len() == 4);
+    assert!(rt; pairs.at(0).is_none());
+    assert!(rt; pairs.at(1).is_none());
+    assert!(rt; pairs.at(2) == Some(Link { upper: 3, lower: 1 }));
+    assert!(rt; pairs.at(3).is_none());
+    assert!(rt; place_of(&rt, &mut pairs, 3, 1) == Some(2));
+    assert!(rt; place_of(&rt, &mut pairs, 1, 3).is_none());
     drop_rule(&rt, &mut pairs, 9);
-    assert_eq!(rt; pairs.live(), 1);
+    assert!(rt; pairs.live() == 1);
 }
 
 #[test]
 fn a_pair_that_comes_again_has_another_number(rt: HostRuntime) {
     let mut pairs = PairNumbers::make(rt.alloc());
-    assert_eq!(rt; pair_of(&rt, &mut pairs, 1, 2), 0);
+    assert!(rt; pair_of(&rt, &mut pairs, 1, 2) == 0);
     pairs.prepare_places().expect(&rt, "room");
-    assert_eq!(rt; pairs.len(), 1);
+    assert!(rt; pairs.len() == 1);
     drop_pair(&mut pairs, 0);
-    assert_eq!(rt; place_of(&rt, &mut pairs, 1, 2), None);
-    assert_eq!(rt; pair_of(&rt, &mut pairs, 1, 2), 1);
-    assert_eq!(rt; place_of(&rt, &mut pairs, 1, 2), Some(1));
+    assert!(rt; place_of(&rt, &mut pairs, 1, 2).is_none());
+    assert!(rt; pair_of(&rt, &mut pairs, 1, 2) == 1);
+    assert!(rt; place_of(&rt, &mut pairs, 1, 2) == Some(1));
     pairs
         .prepare(Link { upper: 4, lower: 5 })
         .expect(&rt, "room");
     pairs.forget();
-    assert_eq!(rt; place_of(&rt, &mut pairs, 4, 5), None);
+    assert!(rt; place_of(&rt, &mut pairs, 4, 5).is_none());
     let copy = pairs.copy().expect(&rt, "room");
-    assert_eq!(rt; copy.len(), 2);
-    assert_eq!(rt; copy.at(1), Some(Link { upper: 1, lower: 2 }));
-    assert_eq!(rt; copy.place(Link { upper: 1, lower: 2 }), Some(1));
+    assert!(rt; copy.len() == 2);
+    assert!(rt; copy.at(1) == Some(Link { upper: 1, lower: 2 }));
+    assert!(rt; copy.place(Link { upper: 1, lower: 2 }) == Some(1));
 }
 
 #[test]
@@ -289,12 +287,12 @@ fn pairs_are_taken_over(rt: HostRuntime) {
     let first = Link { upper: 3, lower: 1 };
     let second = Link { upper: 2, lower: 3 };
     let mut pairs = PairNumbers::of(rt.alloc(), &[first, second]).expect(&rt, "room");
-    assert_eq!(rt; pairs.live(), 2);
-    assert_eq!(rt; pairs.at(0), Some(first));
-    assert_eq!(rt; place_of(&rt, &mut pairs, 2, 3), Some(1));
+    assert!(rt; pairs.live() == 2);
+    assert!(rt; pairs.at(0) == Some(first));
+    assert!(rt; place_of(&rt, &mut pairs, 2, 3) == Some(1));
     drop_rule(&rt, &mut pairs, 1);
-    assert_eq!(rt; pairs.at(0), None);
-    assert_eq!(rt; pairs.at(1), Some(second));
+    assert!(rt; pairs.at(0).is_none());
+    assert!(rt; pairs.at(1) == Some(second));
 }
 
 #[test]
@@ -305,28 +303,11 @@ fn a_rule_has_a_number_of_32_bits(rt: HostRuntime) {
     };
     assert!(rt; PairNumbers::of(rt.alloc(), &[wide]).is_err());
     let mut pairs = PairNumbers::make(rt.alloc());
-    assert!(rt;
-        pairs
-            .prepare(Link {
-                upper: 4_294_967_295,
-                lower: 1
-            })
-            .is_err()
-    );
-    assert!(rt;
-        pairs
-            .prepare(Link {
-                upper: 1,
-                lower: 4_294_967_295
-            })
-            .is_err()
-    );
-    assert!(rt;
-        pairs
-            .prepare(Link {
-                upper: 1,
-                lower: 4_294_967_294
-            })
-            .is_ok()
-    );
+    for (upper, lower, fits) in [
+        (4_294_967_295, 1, false),
+        (1, 4_294_967_295, false),
+        (1, 4_294_967_294, true),
+    ] {
+        assert!(rt; pairs.prepare(Link { upper, lower }).is_ok() == fits);
+    }
 }

@@ -88,8 +88,8 @@ fn expect_borrowed(rt: &impl Abort, literals: &[Literal], at: usize, literal: &L
     let borrowed = LiteralRef::of(literal);
     for (place, other) in literals.iter().enumerate() {
         let other = LiteralRef::of(other);
-        assert_eq!(rt; borrowed == other, at == place);
-        assert_eq!(rt; borrowed.cmp(&other), at.cmp(&place));
+        assert!(rt; (borrowed == other) == (at == place));
+        assert!(rt; borrowed.cmp(&other) == at.cmp(&place));
     }
 }
 

@@ -67,10 +67,10 @@ fn sent<T: Send>(value: T) -> T {
 #[test]
 fn one_number_is_proved(rt: HostRuntime) -> Result<(), Fail> {
     let marks = shared(proved_once::<Brand>(rt.alloc(), Blank::new(1))?);
-    assert_eq!(rt; marks.len(), 2);
+    assert!(rt; marks.len() == 2);
     for number in 0..marks.len() {
-        assert_eq!(rt; marks.get(PLUS, number), number == 1);
-        assert_eq!(rt; marks.get(MINUS, number), number != 1);
+        assert!(rt; marks.get(PLUS, number) == (number == 1));
+        assert!(rt; marks.get(MINUS, number) == (number != 1));
     }
     Ok(())
 }
@@ -78,14 +78,14 @@ fn one_number_is_proved(rt: HostRuntime) -> Result<(), Fail> {
 #[test]
 fn shared_marks_stay_while_one_number_is_edited(rt: HostRuntime) -> Result<(), Fail> {
     let (shared, edited) = shared_and_edited::<Brand>(rt.alloc(), Blank::new(1))?;
-    assert_eq!(rt; shared.len(), 2000);
+    assert!(rt; shared.len() == 2000);
     for number in 0..shared.len() {
-        assert_eq!(rt; shared.get(PLUS, number), number == 1999);
+        assert!(rt; shared.get(PLUS, number) == (number == 1999));
         assert!(rt; shared.get(MINUS, number));
     }
-    assert_eq!(rt; edited.len(), 2300);
+    assert!(rt; edited.len() == 2300);
     for number in 0..edited.len() {
-        assert_eq!(rt; edited.get(PLUS, number), number == 300 || number == 1999);
+        assert!(rt; edited.get(PLUS, number) == (number == 300 || number == 1999));
         assert!(rt; edited.get(MINUS, number));
     }
     Ok(())

@@ -22,7 +22,7 @@ fn number_all(rt: &impl Abort, alloc: Global, names: &mut PairedNames, texts: &[
     for text in texts {
         let literal = literal_of(rt, alloc, text);
         let next = names.len();
-        assert_eq!(rt; names.number(&literal, true).expect(rt, "room"), next);
+        assert!(rt; names.number(&literal, true).expect(rt, "room") == next);
     }
 }
 
@@ -42,8 +42,8 @@ fn are_numbered(
         let number = 2 * (before + place);
         assert!(rt; names.find(&literal) == Some(number));
         assert!(rt; literal_is(rt, names, number, &literal));
-        assert_eq!(rt; names.number(&literal, true).expect(rt, "room"), number);
-        assert_eq!(rt; names.number(&literal, false).expect(rt, "room"), number);
+        assert!(rt; names.number(&literal, true).expect(rt, "room") == number);
+        assert!(rt; names.number(&literal, false).expect(rt, "room") == number);
         let other = literal.complement();
         assert!(rt; names.find(&other) == Some(number + 1));
         assert!(rt; literal_is(rt, names, number + 1, &other));
@@ -72,8 +72,8 @@ fn frozen_names_stand(rt: &impl Abort, alloc: Global) {
         are_numbered(rt, alloc, &mut one, FIRST.len(), &FEW);
         are_numbered(rt, alloc, &mut other, 0, &FIRST);
         are_numbered(rt, alloc, &mut other, FIRST.len(), &MANY);
-        assert_eq!(rt; one.len(), 2 * (FIRST.len() + FEW.len()));
-        assert_eq!(rt; other.len(), 2 * (FIRST.len() + MANY.len()));
+        assert!(rt; one.len() == 2 * (FIRST.len() + FEW.len()));
+        assert!(rt; other.len() == 2 * (FIRST.len() + MANY.len()));
         one.freeze();
         other.freeze();
         one = one.copy().expect(rt, "room");

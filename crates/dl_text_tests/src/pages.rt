@@ -28,13 +28,13 @@ fn a_shared_list_stays_when_the_first_is_written(rt: HostRuntime) {
     list.freeze().expect(&rt, "room");
     let shared = list.share().expect(&rt, "room");
     list.own(300).expect(&rt, "room");
-    assert_eq!(rt; list.put(300, 7), 300);
-    assert_eq!(rt; *list.get(300), 7);
-    assert_eq!(rt; *shared.get(300), 300);
-    assert_eq!(rt; *list.get(299), 299);
-    assert_eq!(rt; *list.get(0), 0);
-    assert_eq!(rt; *list.get(999), 999);
-    assert_eq!(rt; shared.len(), 1000);
+    assert!(rt; list.put(300, 7) == 300);
+    assert!(rt; *list.get(300) == 7);
+    assert!(rt; *shared.get(300) == 300);
+    assert!(rt; *list.get(299) == 299);
+    assert!(rt; *list.get(0) == 0);
+    assert!(rt; *list.get(999) == 999);
+    assert!(rt; shared.len() == 1000);
 }
 
 #[test]
@@ -45,8 +45,8 @@ fn the_first_list_may_go_before_what_is_shared(rt: HostRuntime) {
     let again = shared.share().expect(&rt, "room");
     drop(list);
     drop(shared);
-    assert_eq!(rt; *again.get(0), 0);
-    assert_eq!(rt; *again.get(299), 299);
+    assert!(rt; *again.get(0) == 0);
+    assert!(rt; *again.get(299) == 299);
 }
 
 #[test]
@@ -54,8 +54,8 @@ fn what_cannot_be_copied_is_frozen_and_shared(rt: HostRuntime) {
     let mut list = Paged::<Only>::make(rt.alloc());
     list.freeze().expect(&rt, "room");
     let shared = list.share().expect(&rt, "room");
-    assert_eq!(rt; list.len(), 0);
-    assert_eq!(rt; shared.len(), 0);
+    assert!(rt; list.len() == 0);
+    assert!(rt; shared.len() == 0);
 }
 
 #[test]
@@ -65,10 +65,10 @@ fn element_257_begins_a_page(rt: HostRuntime) {
     let full = list.share().expect(&rt, "room");
     list.reserve(1).expect(&rt, "room");
     list.push(256);
-    assert_eq!(rt; list.len(), 257);
-    assert_eq!(rt; *list.get(255), 255);
-    assert_eq!(rt; *list.get(256), 256);
-    assert_eq!(rt; full.len(), 256);
+    assert!(rt; list.len() == 257);
+    assert!(rt; *list.get(255) == 255);
+    assert!(rt; *list.get(256) == 256);
+    assert!(rt; full.len() == 256);
 }
 
 #[test]
@@ -80,29 +80,29 @@ fn a_last_page_that_is_shared_is_copied_to_grow(rt: HostRuntime) {
     list.push(8);
     list.reserve(1).expect(&rt, "room");
     list.push(9);
-    assert_eq!(rt; list.len(), 259);
-    assert_eq!(rt; *list.get(256), 256);
-    assert_eq!(rt; *list.get(257), 8);
-    assert_eq!(rt; *list.get(258), 9);
-    assert_eq!(rt; shared.len(), 257);
+    assert!(rt; list.len() == 259);
+    assert!(rt; *list.get(256) == 256);
+    assert!(rt; *list.get(257) == 8);
+    assert!(rt; *list.get(258) == 9);
+    assert!(rt; shared.len() == 257);
 }
 
 #[test]
 fn a_place_is_owned_twice(rt: HostRuntime) {
     let mut list = numbers(&rt, rt.alloc(), 2);
     list.own(1).expect(&rt, "room");
-    assert_eq!(rt; list.put(1, 5), 1);
+    assert!(rt; list.put(1, 5) == 1);
     list.freeze().expect(&rt, "room");
     list.own(1).expect(&rt, "room");
     list.own(1).expect(&rt, "room");
-    assert_eq!(rt; list.put(1, 6), 5);
+    assert!(rt; list.put(1, 6) == 5);
     list.freeze().expect(&rt, "room");
-    assert_eq!(rt; *list.get(1), 6);
+    assert!(rt; *list.get(1) == 6);
 }
 
 #[test]
 fn room_that_no_memory_has_is_refused(rt: HostRuntime) {
     let mut list = numbers(&rt, rt.alloc(), 1);
     assert!(rt; list.reserve(usize::MAX).is_err());
-    assert_eq!(rt; *list.get(0), 0);
+    assert!(rt; *list.get(0) == 0);
 }

@@ -17,11 +17,11 @@ fn pairs_stand(rt: &impl Abort, alloc: Global) {
     let must_sing = literal_of(rt, alloc, "[O]sing");
     let mut pairs = AtomPairs::make(alloc);
     pairs.reserve(2).expect(rt, "room");
-    assert_eq!(rt; pairs.put(&fly, true).expect(rt, "room"), Some(0));
-    assert_eq!(rt; pairs.put(&no_fly, true).expect(rt, "room"), None);
-    assert_eq!(rt; pairs.put(&must_not_fly, true).expect(rt, "room"), Some(1));
-    assert_eq!(rt; pairs.put(&must_sing, true).expect(rt, "room"), Some(2));
-    assert_eq!(rt; pairs.len(), 3);
+    assert!(rt; pairs.put(&fly, true).expect(rt, "room") == Some(0));
+    assert!(rt; pairs.put(&no_fly, true).expect(rt, "room") == None);
+    assert!(rt; pairs.put(&must_not_fly, true).expect(rt, "room") == Some(1));
+    assert!(rt; pairs.put(&must_sing, true).expect(rt, "room") == Some(2));
+    assert!(rt; pairs.len() == 3);
     assert!(rt; pairs.find(&no_fly) == Some((0, true)));
     assert!(rt; pairs.find(&must_not_fly) == Some((1, false)));
     assert!(rt; pairs.find(&must_sing) == Some((2, true)));
@@ -75,12 +75,12 @@ fn numbered_pairs_stand(rt: &impl Abort, alloc: Global) {
     for place in 0..PAIRS.len() {
         let first = literal_of(rt, alloc, PAIRS[place]);
         assert!(rt; pairs.find(&first).is_none());
-        assert_eq!(rt; pairs.put(&first, true).expect(rt, "room"), Some(place));
+        assert!(rt; pairs.put(&first, true).expect(rt, "room") == Some(place));
         is_found(rt, alloc, &pairs, place);
     }
     for place in 0..PAIRS.len() {
         let second = literal_of(rt, alloc, PAIRS[place]).complement();
-        assert_eq!(rt; pairs.put(&second, true).expect(rt, "room"), None);
+        assert!(rt; pairs.put(&second, true).expect(rt, "room") == None);
         is_found(rt, alloc, &pairs, place);
     }
     let absent = literal_of(rt, alloc, "p0001");
@@ -92,14 +92,14 @@ fn copied_pairs_stand(rt: &impl Abort, alloc: Global) {
     let mut pairs = AtomPairs::make(alloc);
     for place in 0..PAIRS.len() {
         let first = literal_of(rt, alloc, PAIRS[place]);
-        assert_eq!(rt; pairs.put(&first, true).expect(rt, "room"), Some(place));
+        assert!(rt; pairs.put(&first, true).expect(rt, "room") == Some(place));
     }
     let mut copy = pairs.copy().expect(rt, "room");
     for place in 0..PAIRS.len() {
         is_found(rt, alloc, &copy, place);
     }
     let next = literal_of(rt, alloc, "p0001");
-    assert_eq!(rt; copy.put(&next, true).expect(rt, "room"), Some(PAIRS.len()));
+    assert!(rt; copy.put(&next, true).expect(rt, "room") == Some(PAIRS.len()));
     assert!(rt; pairs.find(&next).is_none());
 }
 

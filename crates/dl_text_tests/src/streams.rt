@@ -21,11 +21,11 @@ fn a_source_gives_its_bytes_and_fails_where_it_is_told(rt: HostRuntime) {
     let alloc = rt.alloc();
     let mut source = MemorySource::make(alloc, copied(&rt, alloc, b"abc"), second(&rt, alloc));
     let mut room = [0u8; 2];
-    assert_eq!(rt; source.read(&mut room).ok(), Some(2));
-    assert_eq!(rt; room, [97, 98]);
+    assert!(rt; source.read(&mut room).ok() == Some(2));
+    assert!(rt; room == [97, 98]);
     assert!(rt; source.read(&mut room).is_err());
-    assert_eq!(rt; source.read(&mut room).ok(), Some(1));
-    assert_eq!(rt; source.read(&mut room).ok(), Some(0));
+    assert!(rt; source.read(&mut room).ok() == Some(1));
+    assert!(rt; source.read(&mut room).ok() == Some(0));
 }
 
 #[test]
@@ -34,10 +34,10 @@ fn a_sink_keeps_what_was_written(rt: HostRuntime) {
     let mut sink = MemorySink::make(alloc, second(&rt, alloc));
     assert!(rt; write_all(&mut sink, b"ab").is_ok());
     assert!(rt; sink.flush().is_err());
-    assert_eq!(rt; sink.handed(), b"".as_slice());
+    assert!(rt; sink.handed() == b"".as_slice());
     assert!(rt; sink.flush().is_ok());
-    assert_eq!(rt; sink.bytes(), b"ab".as_slice());
-    assert_eq!(rt; sink.handed(), b"ab".as_slice());
+    assert!(rt; sink.bytes() == b"ab".as_slice());
+    assert!(rt; sink.handed() == b"ab".as_slice());
 }
 
 fn text(rt: &impl Abort, alloc: Global, text: &str) -> String {
@@ -66,7 +66,7 @@ fn a_house_in_memory_settles_what_it_opened(rt: HostRuntime) {
         house.settle_out(&name, sink);
         assert!(rt; written.is_ok() && flushed.is_ok() && late.is_ok());
     }
-    assert_eq!(rt; house.wrote(&name), Some(b"z".as_slice()));
+    assert!(rt; house.wrote(&name) == Some(b"z".as_slice()));
     let other = text(&rt, alloc, "b");
     assert!(rt; house.wrote(&other).is_none());
     assert!(rt; matches!(house.input(&other), Err(OpenStop::Failed)));
@@ -93,8 +93,8 @@ fn a_house_over_files_gives_what_it_got(rt: HostRuntime) {
         }
         house.settle_in(&name, source);
     }
-    assert_eq!(rt; count, 5);
-    assert_eq!(rt; room, *b"hello\0\0\0");
+    assert!(rt; count == 5);
+    assert!(rt; room == *b"hello\0\0\0");
     let missing = format!(in alloc; "/tmp/ddl_streams_{id}/none").expect(&rt, "a name");
     assert!(rt; matches!(house.input(&missing), Err(OpenStop::Failed)));
 }
@@ -121,11 +121,11 @@ fn short_writes_are_continued(rt: HostRuntime) {
     ];
     let mut sink = planned(&rt, rt.alloc(), 4, &plan);
     assert!(rt; write_all(&mut sink, b"abc").is_ok());
-    assert_eq!(rt; sink.raw().bytes(), b"".as_slice());
+    assert!(rt; sink.raw().bytes() == b"".as_slice());
     assert!(rt; write_all(&mut sink, b"large piece").is_ok());
     assert!(rt; write_all(&mut sink, b".").is_ok());
     assert!(rt; sink.flush().is_ok());
-    assert_eq!(rt; sink.raw().bytes(), b"abclarge piece.".as_slice());
+    assert!(rt; sink.raw().bytes() == b"abclarge piece.".as_slice());
 }
 
 #[test]
@@ -134,11 +134,11 @@ fn a_flush_that_fails_goes_on_where_it_stopped(rt: HostRuntime) {
     let mut sink = planned(&rt, rt.alloc(), 8, &plan);
     assert!(rt; write_all(&mut sink, b"abcd").is_ok());
     assert!(rt; sink.flush().is_err());
-    assert_eq!(rt; sink.raw().bytes(), b"ab".as_slice());
+    assert!(rt; sink.raw().bytes() == b"ab".as_slice());
     // the system takes nothing of some bytes
     assert!(rt; sink.flush().is_err());
     assert!(rt; sink.flush().is_ok());
-    assert_eq!(rt; sink.raw().bytes(), b"abcd".as_slice());
+    assert!(rt; sink.raw().bytes() == b"abcd".as_slice());
 }
 
 #[test]
@@ -149,11 +149,11 @@ fn an_interrupted_read_is_tried_again(rt: HostRuntime) {
     let raw = RawMemorySource::make(copied(&rt, alloc, b"abc"), plan);
     let mut source = SystemSource::make(raw, String::new(alloc));
     let mut room = [0u8; 4];
-    assert_eq!(rt; source.read(&mut room).ok(), Some(1));
+    assert!(rt; source.read(&mut room).ok() == Some(1));
     assert!(rt; source.read(&mut room).is_err());
-    assert_eq!(rt; source.read(&mut room).ok(), Some(2));
-    assert_eq!(rt; room, *b"bc\0\0");
-    assert_eq!(rt; source.read(&mut room).ok(), Some(0));
+    assert!(rt; source.read(&mut room).ok() == Some(2));
+    assert!(rt; room == *b"bc\0\0");
+    assert!(rt; source.read(&mut room).ok() == Some(0));
 }
 
 #[test]
@@ -161,7 +161,7 @@ fn signals_without_end_are_a_fault(rt: HostRuntime) {
     let plan = vec![in rt.alloc(); Call::Interrupted; 1_000_000].expect(&rt, "a plan");
     let mut sink = planned(&rt, rt.alloc(), 0, plan.as_slice());
     assert!(rt; sink.write(b"a").is_err());
-    assert_eq!(rt; sink.raw().bytes(), b"".as_slice());
+    assert!(rt; sink.raw().bytes() == b"".as_slice());
 }
 
 #[test]
