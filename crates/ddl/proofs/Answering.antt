@@ -6,24 +6,26 @@ use Rattle.std.specs.Str.{bytes_eq}
 use Rattle.dl_io.specs.Outside.{Rose, raised, at_name}
 use Rattle.dl_io.specs.House.{HouseState, IsShut, standard, failed_out, settled_out}
 use Rattle.dl_lines.specs.declared.reader.TheConstants.{MOST_BYTES}
-use Rattle.dl_journal.specs.Names.{output_names, is_among}
+use Rattle.dl_words.specs.Names.{output_names, is_among}
 use Rattle.dl_journal.specs.Streams.{begun}
-use Rattle.ddl.specs.declared.refusal.Refusal.{Refusal}
-use Rattle.ddl.specs.declared.reply.Reply.{Reply}
-use Rattle.ddl.specs.declared.reply.Reply.TheVariants as reply_of
-use Rattle.ddl.specs.declared.status.Status.{Status}
-use Rattle.ddl.specs.declared.status.Status.TheVariants as status
-use Rattle.ddl.specs.declared.whole.Stop.{Stop}
-use Rattle.ddl.specs.declared.whole.Stop.TheVariants as stop
-use Rattle.ddl.specs.declared.words.Command.{Command}
-use Rattle.ddl.specs.declared.words.Command.TheVariants as command
-use Rattle.ddl.specs.Replies.{reply_status, reply_text}
-use Rattle.ddl.specs.Run.{outcome_of, Shows, refused, ReadsOnly, MayEnd, Replies, IsUnserved, AnswersBehind, Answers, Runs, files_for, files_of, outputs_of, most_for, session_outputs}
-use Rattle.ddl.specs.Serve.{HasFailed, HasLacked}
-use Rattle.ddl.specs.Serving.{PrintsTo, SaysTo, CountsBy, Works}
-use Rattle.ddl.specs.Theories.{limit, IsRefusal}
-use Rattle.ddl.specs.Whole.{HasFault, TakesAtMost}
-use Rattle.ddl.specs.Words.{Form, Conclude, Print, Check, Gen, Serve, form, form_of}
+use Rattle.dl_files.specs.declared.refusal.Refusal.{Refusal}
+use Rattle.dl_replies.specs.declared.reply.Reply.{Reply}
+use Rattle.dl_replies.specs.declared.reply.Reply.TheVariants as reply_of
+use Rattle.dl_files.specs.declared.status.Status.{Status}
+use Rattle.dl_files.specs.declared.status.Status.TheVariants as status
+use Rattle.dl_files.specs.declared.whole.Stop.{Stop}
+use Rattle.dl_files.specs.declared.whole.Stop.TheVariants as stop
+use Rattle.dl_words.specs.declared.words.Command.{Command}
+use Rattle.dl_words.specs.declared.words.Command.TheVariants as command
+use Rattle.dl_replies.specs.Replies.{reply_status, reply_text}
+use Rattle.ddl.specs.Run.{outcome_of, Shows, refused, MayEnd, Replies, IsUnserved, AnswersBehind, Answers, Runs, files_for, files_of, outputs_of, most_for, session_outputs}
+use Rattle.dl_files.specs.Reading.{ReadsOnly, CountsBy}
+use Rattle.dl_serving.specs.Serve.{HasFailed, HasLacked}
+use Rattle.dl_serving.specs.Serving.{PrintsTo}
+use Rattle.ddl.specs.Answering.{SaysTo, Works}
+use Rattle.dl_files.specs.Theories.{limit, IsRefusal}
+use Rattle.dl_files.specs.Whole.{HasFault, TakesAtMost}
+use Rattle.dl_words.specs.Words.{Form, Conclude, Print, Check, Gen, Serve, form, form_of}
 
 -- the program does not serve for a command
 pub command_unserved : (tells : Bool) (holds : List ℕ → Option (List ℕ)) (asked : Command) → IsUnserved tells holds (Some (form_of asked))

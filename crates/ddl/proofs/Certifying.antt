@@ -3,15 +3,16 @@ use Rattle.std.proofs.Common.{◌≡◌, ◌∙◌, ◌⊎◌, ◌+◌, inl, inr
 use Rattle.std.specs.Prelude.{Result}
 use Rattle.dl_io.specs.House.{HouseState}
 use Rattle.dl_theory.specs.Lists.{TheoryLists}
-use Rattle.ddl.specs.declared.refusal.Refusal.TheVariants.{Size, Form, Variables, Edit}
-use Rattle.ddl.specs.declared.reply.Reply.{Reply}
-use Rattle.ddl.specs.declared.reply.Reply.TheVariants as reply
-use Rattle.ddl.specs.Theories.{limit, IsTheoryFile}
-use Rattle.ddl.specs.Certified.{SaysOfCertificate}
-use Rattle.ddl.specs.declared.whole.Stop.{Stop}
-use Rattle.ddl.specs.Whole.{HasFault, TakesAtMost}
-use Rattle.ddl.specs.Words.{Check}
-use Rattle.ddl.specs.Run.{ReadsOnly, ReadsWithin, Shows, too_large, checked, outcome_of}
+use Rattle.dl_files.specs.declared.refusal.Refusal.TheVariants.{Size, Form, Variables, Edit}
+use Rattle.dl_replies.specs.declared.reply.Reply.{Reply}
+use Rattle.dl_replies.specs.declared.reply.Reply.TheVariants as reply
+use Rattle.dl_files.specs.Theories.{limit, IsTheoryFile}
+use Rattle.dl_replies.specs.Certified.{SaysOfCertificate}
+use Rattle.dl_files.specs.declared.whole.Stop.{Stop}
+use Rattle.dl_files.specs.Whole.{HasFault, TakesAtMost}
+use Rattle.dl_words.specs.Words.{Check}
+use Rattle.dl_files.specs.Reading.{ReadsOnly, ReadsWithin}
+use Rattle.ddl.specs.Run.{Shows, too_large, checked, outcome_of}
 
 module _ (holds : List ℕ → Option (List ℕ)) (file cert bytes more : List ℕ) (T : TheoryLists) (held : holds file ≡ Some bytes) (loads : IsTheoryFile bytes T)
     (kept : holds cert ≡ Some more) where

@@ -2,25 +2,25 @@
 use Rattle.std.proofs.Common.{◌≡◌, ◌∙◌, ◌⊎◌, ◌<◌, ◌≤◌, inl, inr, ℕ, Bool, true, List, [], ◌∷◌, ◌++◌, length, Option, None, Some, refl, sym, subst, arith}
 use Rattle.dl_io.specs.Outside.{Rose}
 use Rattle.dl_io.specs.House.{HouseState, standard}
-use Rattle.dl_journal.specs.Names.{output_names}
+use Rattle.dl_words.specs.Names.{output_names}
 use Rattle.dl_theory.specs.Lists.{TheoryLists}
 use Rattle.dl_session.specs.declared.end.End.{End}
 use Rattle.dl_session.specs.declared.end.End.TheVariants.{Done, ReadFault, WriteFault, Spent}
 use Rattle.dl_read.specs.declared.file.ReadStop.TheVariants as stop
 use Rattle.dl_read.proofs.Unique.{loads_one, loads_or_stops}
-use Rattle.ddl.specs.declared.refusal.Refusal.{Refusal}
-use Rattle.ddl.specs.declared.refusal.Refusal.TheVariants.{Size, Form, Variables, Edit}
-use Rattle.ddl.specs.declared.status.Status.TheVariants as status
-use Rattle.ddl.specs.declared.status.Status.{Status}
-use Rattle.ddl.specs.Words as words
-use Rattle.ddl.specs.Words.{form}
-use Rattle.ddl.specs.declared.check.Checked.{Checked}
-use Rattle.ddl.specs.declared.reply.Reply.TheVariants as reply
-use Rattle.ddl.specs.Theories.{limit, IsTheoryFile, IsRefusal}
-use Rattle.ddl.specs.Checks.{IsOnlyChecked}
-use Rattle.ddl.specs.Replies.{reply_status}
+use Rattle.dl_files.specs.declared.refusal.Refusal.{Refusal}
+use Rattle.dl_files.specs.declared.refusal.Refusal.TheVariants.{Size, Form, Variables, Edit}
+use Rattle.dl_files.specs.declared.status.Status.TheVariants as status
+use Rattle.dl_files.specs.declared.status.Status.{Status}
+use Rattle.dl_words.specs.Words as words
+use Rattle.dl_words.specs.Words.{form}
+use Rattle.dl_replies.specs.declared.checked.Checked.{Checked}
+use Rattle.dl_replies.specs.declared.reply.Reply.TheVariants as reply
+use Rattle.dl_files.specs.Theories.{limit, IsTheoryFile, IsRefusal}
+use Rattle.dl_replies.specs.Checks.{IsOnlyChecked}
+use Rattle.dl_replies.specs.Replies.{reply_status}
 use Rattle.ddl.specs.Run.{Outcome, Shows, usage, refused, concluded, printed, too_large, checked, generated, Answers, MayEnd, ServesNames, AsksAbout}
-use Rattle.ddl.specs.Serve.{ends_status, ends_of, Prints, HasFailed, HasLacked, Serves}
+use Rattle.dl_serving.specs.Serve.{ends_status, ends_of, Prints, HasFailed, HasLacked, Serves}
 
 pub not_both : (bytes : List ℕ) (T : TheoryLists) (x : Refusal) → IsTheoryFile bytes T → IsRefusal bytes x → ⊥
 not_both bytes T Size t h = absurd (omega (arith, t.0, h))

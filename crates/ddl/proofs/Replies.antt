@@ -3,12 +3,12 @@ use Rattle.std.proofs.Common.{◌≡◌, ◌⊎◌, inl, inr, ℕ, List, [], ◌
 use Rattle.std.specs.List.{AllZip}
 use Rattle.std.specs.Str.{bytes_eq}
 use Rattle.dl_io.specs.House.{HouseState, IsShut, opened_out, settled_out, standard}
-use Rattle.dl_journal.specs.Names.{output_names}
-use Rattle.ddl.specs.declared.status.Status.{Status}
-use Rattle.ddl.specs.Serve.{Account, IsAccountOf, HasFailed, HasLacked, Serves, Prints}
-use Rattle.ddl.specs.Serving.{Works}
+use Rattle.dl_words.specs.Names.{output_names}
+use Rattle.dl_files.specs.declared.status.Status.{Status}
+use Rattle.dl_serving.specs.Serve.{Account, IsAccountOf, HasFailed, HasLacked, Serves, Prints}
+use Rattle.ddl.specs.Answering.{Works}
 use Rattle.ddl.specs.Run.{Runs, Answers, AnswersBehind}
-use Rattle.ddl.specs.Words.{form}
+use Rattle.dl_words.specs.Words.{form}
 
 closed : (b f : Bool) → f ≡ false → cond b false (cond b true f) ≡ false
 closed true f shut = refl

@@ -1,10 +1,2 @@
-pub mod Words
-pub mod Whole
-pub mod Statuses
-pub mod Theories
-pub mod Checks
-pub mod Replies
-pub mod Certified
-pub mod Serve
 pub mod Run
-pub mod Serving
+pub mod Answering

@@ -6,27 +6,26 @@ use Rattle.dl_io.specs.Streams.{IsFront}
 use Rattle.dl_io.specs.House.{HouseState, IsShut, standard}
 use Rattle.dl_theory.specs.Lists.{TheoryLists}
 use Rattle.dl_print.specs.Text.{theory_text}
-use Rattle.dl_gen.specs.declared.summary.Summary.{Summary}
-use Rattle.dl_gen.specs.Summary.{IsSummary, summary_text}
-use Rattle.ddl.specs.declared.status.Status.{Status}
-use Rattle.ddl.specs.declared.status.Status.TheVariants as status
-use Rattle.ddl.specs.declared.refusal.Refusal.{Refusal}
+use Rattle.dl_summary.specs.declared.summary.Summary.{Summary}
+use Rattle.dl_summary.specs.Summary.{IsSummary, summary_text}
+use Rattle.dl_files.specs.declared.status.Status.{Status}
+use Rattle.dl_files.specs.declared.status.Status.TheVariants as status
+use Rattle.dl_files.specs.declared.refusal.Refusal.{Refusal}
 use Rattle.dl_conclusions.specs.declared.conclusion.Conclusion.{Conclusion}
 use Rattle.dl_conclusions.specs.Conclusions.{AreConclusions}
-use Rattle.ddl.specs.declared.reply.Reply.TheVariants as reply
-use Rattle.ddl.specs.declared.refusal.Refusal.TheVariants as refusal
-use Rattle.ddl.specs.declared.check.Checked.{Checked}
+use Rattle.dl_replies.specs.declared.reply.Reply.TheVariants as reply
+use Rattle.dl_files.specs.declared.refusal.Refusal.TheVariants as refusal
+use Rattle.dl_replies.specs.declared.checked.Checked.{Checked}
 use Rattle.dl_lines.specs.declared.reader.TheConstants.{MOST_BYTES}
-use Rattle.dl_journal.specs.Names.{output_names, is_among}
-use Rattle.dl_journal.specs.Streams.{GrowsBy}
-use Rattle.ddl.specs.Words.{Form, Conclude, Print, Check, Gen, Serve, form, file_of}
-use Rattle.ddl.specs.Theories.{limit, IsTheoryFile, IsRefusal, refused_line}
-use Rattle.ddl.specs.Checks.{IsOnlyChecked}
-use Rattle.ddl.specs.Whole.{TakesAtMost}
+use Rattle.dl_words.specs.Names.{output_names, is_among, GrowsBy}
+use Rattle.dl_words.specs.Words.{Form, Conclude, Print, Check, Gen, Serve, form, file_of}
+use Rattle.dl_files.specs.Theories.{limit, IsTheoryFile, IsRefusal, refused_line}
+use Rattle.dl_replies.specs.Checks.{IsOnlyChecked}
+use Rattle.dl_files.specs.Whole.{ReadsAtMost}
 use Rattle.dl_conclusions.specs.Text.{conclusions_text}
-use Rattle.ddl.specs.declared.reply.Reply.{Reply}
-use Rattle.ddl.specs.Replies.{usage_line, reply_status, reply_text}
-use Rattle.ddl.specs.Serve.{Serves}
+use Rattle.dl_replies.specs.declared.reply.Reply.{Reply}
+use Rattle.dl_replies.specs.Replies.{usage_line, reply_status, reply_text}
+use Rattle.dl_serving.specs.Serve.{Serves}
 
 -- what was handed on to standard output, and the status
 pub record Outcome : Type 0 where
@@ -90,14 +89,6 @@ outputs_for asked = standard ∷ session_outputs asked
 abbrev pub outputs_of : List (List ℕ) → List (List ℕ)
 outputs_of words = outputs_for (form words)
 
--- Under a name nothing was read, or at most so many bytes of what it holds.
-abbrev pub ReadsAtMost : (List ℕ → ℕ) → HouseState → HouseState → Type 0
-ReadsAtMost most old new = (name : List ℕ) → (new.left name ≡ old.left name) ⊎ TakesAtMost (most name) (old.holds name) (new.left name)
-
--- one byte more than the limit of a file
-abbrev pub ReadsWithin : HouseState → HouseState → Type 0
-ReadsWithin old new = ReadsAtMost (λ name. limit + 1) old new
-
 -- how many bytes may be read under a name: of a session's input, and of another file
 abbrev pub most_for : Option Form → List ℕ → ℕ
 most_for None name = limit + 1
@@ -106,16 +97,6 @@ most_for (Some (Print file)) name = limit + 1
 most_for (Some (Check theory cert)) name = limit + 1
 most_for (Some (Gen seed size)) name = limit + 1
 most_for (Some (Serve theory names)) name = if is_among name names then MOST_BYTES else limit + 1
-
--- names were opened for input, read and settled, and nothing else
-pub record ReadsOnly (old new : HouseState) (names : List (List ℕ)) : Type 0 where
-  pub holds : new.holds ≡ old.holds
-  pub within : ReadsWithin old new
-  pub wrote : new.wrote ≡ old.wrote
-  pub open_in : new.open_in ≡ old.open_in
-  pub open_out : new.open_out ≡ old.open_out
-  pub asked_in : GrowsBy old.asked_in new.asked_in names
-  pub asked_out : new.asked_out ≡ old.asked_out
 
 -- the statuses with which the program ends by itself after a certificate was opened
 abbrev pub MayJudge : Status → Type 0

@@ -4,13 +4,13 @@ ghost use Rattle.std.specs.Prelude.{◌≡◌, ◌⊎◌, ◌<◌, ◌≤◌, Bo
 ghost use Rattle.dl_io.specs.Outside.{Rose};
 ghost use Rattle.dl_io.specs.House.{HouseState};
 ghost use Rattle.dl_theory.specs.Lists.{TheoryLists};
-ghost use Rattle.ddl.specs.Checks.{IsChecked};
+ghost use Rattle.dl_replies.specs.Checks.{IsChecked};
 ghost use Rattle.ddl.specs.Run.{Answers, AsksAbout};
-ghost use Rattle.ddl.specs.Theories.{limit, IsTheoryFile, IsRefusal};
-ghost use Rattle.ddl.specs.Words.{Form, Gen, form, file_of, IsAlone};
-ghost use Rattle.ddl.specs.declared.check.Checked.{Checked};
-ghost use Rattle.ddl.specs.declared.refusal.Refusal.{Refusal};
-ghost use Rattle.ddl.specs.declared.status.Status.{Status};
+ghost use Rattle.dl_files.specs.Theories.{limit, IsTheoryFile, IsRefusal};
+ghost use Rattle.dl_words.specs.Words.{Form, Gen, form, file_of, IsAlone};
+ghost use Rattle.dl_replies.specs.declared.checked.Checked.{Checked};
+ghost use Rattle.dl_files.specs.declared.refusal.Refusal.{Refusal};
+ghost use Rattle.dl_files.specs.declared.status.Status.{Status};
 
 /// Usage comes only for words of no form. Done comes only where the theory's file loads, and Refused only where it is
 /// refused, or is loaded and the certificate is too large.

@@ -6,20 +6,9 @@
 //! "Representation Results for Defeasible Logic" (2001).
 #![tactic(auto)]
 
-mod check;
-mod conclusion;
 mod law;
-mod print;
 mod program;
-mod refusal;
-mod reply;
-mod serve;
-mod sessions;
-mod status;
-mod theory_file;
-mod whole;
-mod words;
 
+pub use dl_files::Status;
 pub use law::{certificates_are_judged, statuses_are_exact};
 pub use program::run;
-pub use status::Status;

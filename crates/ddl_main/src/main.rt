@@ -7,7 +7,7 @@
 ghost use Rattle.std.specs.Prelude.{◌≡◌, ◌⊎◌, IfOk, IfErr};
 ghost use Rattle.dl_io.specs.House.{IsShut};
 ghost use Rattle.dl_io.specs.Standard.{std_house};
-ghost use Rattle.ddl.specs.declared.status.Status.{Status};
+ghost use Rattle.dl_files.specs.declared.status.Status.{Status};
 
 use ddl::{Status, run};
 use dl_io::StdHouse;

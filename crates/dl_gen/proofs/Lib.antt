@@ -1,11 +1,1 @@
-pub mod Wrapping
-pub mod Spelling
-pub mod Fronts
-pub mod Accepting
-pub mod EachCall
-pub mod NoPairs
-pub mod Gathered
-pub mod Nested
-pub mod Surveyed
 pub mod OneSeat
-pub mod Replayed

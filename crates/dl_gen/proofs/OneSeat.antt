@@ -17,14 +17,14 @@ use Rattle.dl_calls.specs.Reasoner.{State, opening}
 use Rattle.dl_calls.specs.Histories.{next, after, after_all, state_after, IsLegal}
 use Rattle.dl_edition.specs.Offices.{SeatLists, MayCall, Stays, HasCalled, IsCall}
 use Rattle.dl_desk.specs.Boards.{BoardLists}
-use Rattle.dl_gen.specs.declared.summary.Summary.{Summary}
-use Rattle.dl_gen.specs.Generator.{generated_theory, generated_calls, draw_each, draw_calls, draw_lists}
-use Rattle.dl_gen.specs.Running.{IsChange, HasMade, IsRun, IsGenerated, EndsPublished, calls_of}
-use Rattle.dl_gen.specs.Summary.{IsSummaryOf, IsSummary}
-use Rattle.dl_gen.specs.declared.replay.Replay.{Replay}
-use Rattle.dl_gen.specs.Replaying.{IsReplay, Replays}
-use Rattle.dl_gen.proofs.Replayed.{rest_calls}
-use Rattle.dl_gen.proofs.EachCall.{each_call}
+use Rattle.dl_summary.specs.declared.summary.Summary.{Summary}
+use Rattle.dl_draw.specs.Generator.{generated_theory, generated_calls, draw_each, draw_calls, draw_lists}
+use Rattle.dl_gen.specs.Running.{IsChange, HasMade, IsRun, IsGenerated, EndsPublished}
+use Rattle.dl_summary.specs.Summary.{IsSummaryOf, IsSummary, calls_of}
+use Rattle.dl_summary.specs.declared.replay.Replay.{Replay}
+use Rattle.dl_summary.specs.Replaying.{IsReplay, Replays}
+use Rattle.dl_summary.proofs.Replayed.{rest_calls}
+use Rattle.dl_draw.proofs.EachCall.{each_call}
 
 -- a call is one more of the seat's own
 pub call_made : (old new : SeatLists) (asked : Call) (answer : Reply) → HasCalled old new asked answer → calls_of new.mine ≡ calls_of old.mine ++ asked ∷ []

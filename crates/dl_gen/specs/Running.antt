@@ -1,23 +1,20 @@
 -- Calls on the way to a summary.
-use Rattle.std.specs.Prelude.{◌≡◌, ℕ, List, [], ◌∷◌, ◌++◌, None, map}
+use Rattle.std.specs.Prelude.{◌≡◌, ℕ, List, [], ◌∷◌, ◌++◌, None}
 use Rattle.dl_theory.specs.Lists.{TheoryLists}
 use Rattle.dl_calls.specs.declared.call.Call.{Call}
 use Rattle.dl_calls.specs.declared.call.Call.TheVariants.{Enrol, Edit, Publish}
-use Rattle.dl_calls.specs.declared.entry.Entry.{Entry}
 use Rattle.dl_calls.specs.Reasoner.{State}
 use Rattle.dl_calls.specs.Histories.{IsLegal}
 use Rattle.dl_edition.specs.Offices.{SeatLists}
 use Rattle.dl_desk.specs.Boards.{BoardLists}
-use Rattle.dl_gen.specs.Generator.{generated_theory, generated_calls}
+use Rattle.dl_draw.specs.Generator.{generated_theory, generated_calls}
+use Rattle.dl_summary.specs.Summary.{calls_of}
 
 -- a call that changes the draft or the editions
 abbrev pub IsChange : Call → Type 0
 IsChange (Edit e) = Unit {0}
 IsChange Publish = Unit {0}
 IsChange _ = ⊥
-
-abbrev pub calls_of : List Entry → List Call
-calls_of history = map (λ e. e.call) history
 
 -- Between two views of a seat it made these calls, and no others. It keeps its place, its start and its number, and no board is out.
 pub record HasMade (old new : SeatLists) (made : List Call) : Type 0 where

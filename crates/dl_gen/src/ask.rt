@@ -3,16 +3,15 @@
 ghost use Rattle.std.specs.Prelude.{◌≡◌, IfOk, OnOk, map};
 ghost use Rattle.dl_theory.specs.Laws.{IsCoherent, IsConsistent, IsInclusive};
 ghost use Rattle.dl_check.specs.Checking.{StandsFor};
-ghost use Rattle.dl_gen.specs.Survey.{IsSurvey, AreNested};
-ghost use Rattle.dl_gen.specs.Answers.{IsAnswer, IsAnswered, AreAnswered};
+ghost use Rattle.dl_summary.specs.Survey.{IsSurvey, AreNested};
+ghost use Rattle.dl_summary.specs.Answers.{IsAnswer, IsAnswered, AreAnswered};
 
-use crate::counts::Survey;
-use crate::families::{Answers, Families};
 use dl_base::Memory;
 use dl_check::{Accepted, Checker};
 use dl_conclusions::Conclusion;
 use dl_edition::Held;
 use dl_lit::{Family, Literal};
+use dl_summary::{Answers, Families, Survey};
 use dl_theory::Theory;
 use rayon::prelude::*;
 use std::alloc::Global;

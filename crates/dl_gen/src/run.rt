@@ -4,20 +4,18 @@ ghost use Rattle.std.specs.Prelude.{◌≡◌, ◌-◌, ◌<◌, ◌≤◌, ◌�
 ghost use Rattle.dl_turn.specs.Views.{new_seat};
 ghost use Rattle.dl_calls.specs.Histories.{state_after};
 ghost use Rattle.dl_edition.specs.Offices.{MayCall};
-ghost use Rattle.dl_gen.specs.Generator.{generated_theory, generated_calls};
-ghost use Rattle.dl_gen.specs.Summary.{IsSummary, IsSummaryOf};
-ghost use Rattle.dl_gen.specs.Replaying.{IsReplay, Replays};
+ghost use Rattle.dl_draw.specs.Generator.{generated_theory, generated_calls};
+ghost use Rattle.dl_summary.specs.Summary.{IsSummary, IsSummaryOf};
+ghost use Rattle.dl_summary.specs.Replaying.{IsReplay, Replays};
 ghost use Rattle.dl_gen.specs.Running.{IsChange, HasMade, IsRun, IsGenerated};
 
 use crate::ask::survey;
-use crate::calls::make_calls;
-use crate::replay::Replay;
-use crate::summary::Summary;
-use crate::theory::make_theory;
 use dl_base::Memory;
 use dl_calls::Call;
 use dl_desk::{Board, Desk};
+use dl_draw::{make_calls, make_theory};
 use dl_edition::Office;
+use dl_summary::{Replay, Summary};
 use dl_theory::{Edit, EditStop, Theory};
 use dl_turn::Seat;
 use std::alloc::Global;

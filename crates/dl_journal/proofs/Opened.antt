@@ -5,10 +5,10 @@ use Rattle.std.specs.Str.{bytes_eq}
 use Rattle.std.specs.Option.{option_map}
 use Rattle.dl_io.specs.Outside.{at_name}
 use Rattle.dl_io.specs.House.{HouseState, standard}
-use Rattle.dl_journal.specs.Names.{output_name, output_names, is_among}
+use Rattle.dl_words.specs.Names.{output_name, output_names, is_among}
 use Rattle.dl_sessions.specs.Served.{Told}
 use Rattle.dl_journal.specs.Streams.{opened_pair, opened_all, IsFresh, AreFresh, AreOpen}
-use Rattle.dl_journal.proofs.Names.{or_false, or_right, first_among}
+use Rattle.dl_words.proofs.Names.{or_false, or_right, first_among}
 
 -- what no opening changes, and the names that were asked for
 pub record Opens (old new : HouseState) (names : List (List ℕ)) : Type 0 where

@@ -5,13 +5,13 @@ use Rattle.std.specs.Str.{bytes_eq}
 use Rattle.std.proofs.lemmas.List.{map-append, length-map}
 use Rattle.dl_io.specs.Outside.{raised}
 use Rattle.dl_io.specs.House.{HouseState}
-use Rattle.dl_journal.specs.Names.{output_name, output_names, is_among, AreDistinct}
+use Rattle.dl_words.specs.Names.{output_name, output_names, is_among, AreDistinct}
 use Rattle.dl_journal.specs.declared.named.Named.{Named}
 use Rattle.dl_sessions.specs.Served.{Told}
 use Rattle.dl_journal.specs.Streams.{names_of, settled_pair, settled_all, AreFresh, IsOpen, AreOpen, begun}
 use Rattle.std.specs.List.{AllZip}
 use Rattle.dl_io.proofs.Names.{bytes_eq-refl}
-use Rattle.dl_journal.proofs.Names.{same_name, bytes_eq-sym, outputs_eq, among_outputs, or_false, apart_at}
+use Rattle.dl_words.proofs.Names.{same_name, bytes_eq-sym, outputs_eq, among_outputs, or_false, apart_at}
 
 -- the last streams are settled first
 pub settled_last : (house : HouseState) (names : List (List ℕ)) (ts : List Told) (t : Told) (name : List ℕ) → slice_get names (length ts) ≡ Some name

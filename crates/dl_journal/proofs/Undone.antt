@@ -9,10 +9,10 @@ use Rattle.dl_io.specs.Outside.{Rose}
 use Rattle.dl_io.specs.House.{HouseState}
 use Rattle.dl_io.specs.declared.house.OpenStop.{OpenStop}
 use Rattle.dl_io.specs.declared.house.OpenStop.TheVariants.{Failed, Memory}
-use Rattle.dl_journal.specs.Names.{output_name, output_names, is_among}
+use Rattle.dl_words.specs.Names.{output_name, output_names, is_among, GrowsBy}
 use Rattle.dl_sessions.specs.Served.{Told}
-use Rattle.dl_journal.specs.Streams.{MayOpen, opened_pair, opened_all, settled_all, IsFresh, AreFresh, AreOpen, begun, GrowsBy, HasStopCause, Undoes}
-use Rattle.dl_journal.proofs.Names.{same_name, or_left, among_outputs, among_at, among_take, distinct_at, apart_from, take_next}
+use Rattle.dl_journal.specs.Streams.{MayOpen, opened_pair, opened_all, settled_all, IsFresh, AreFresh, AreOpen, begun, HasStopCause, Undoes}
+use Rattle.dl_words.proofs.Names.{same_name, or_left, among_outputs, among_at, among_take, distinct_at, apart_from, take_next}
 use Rattle.dl_journal.proofs.Opened.{Opens, opens, opened_open_in, opened_open_out, opened_holds, opened_last, fresh_last, fresh_open, fresh_within}
 use Rattle.dl_journal.proofs.Settled.{settled_open_in, settled_open_out, KeepsAsked, settled_asked, fresh_faults, fresh_left, fresh_wrote}
 

@@ -1,3 +1,2 @@
 pub mod Journal
-pub mod Names
 pub mod Streams

@@ -1,11 +1,11 @@
 -- A house whose files are opened for sessions, and settled after them.
-use Rattle.std.specs.Prelude.{◌≡◌, ◌⊎◌, ℕ, Bool, true, false, List, [], ◌∷◌, ◌++◌, map, Option, Some, None, IsTrue, IsSome, string_bytes, if◌then◌else◌}
+use Rattle.std.specs.Prelude.{◌≡◌, ◌⊎◌, ℕ, Bool, true, false, List, [], ◌∷◌, map, Option, Some, None, IsTrue, IsSome, string_bytes, if◌then◌else◌}
 use Rattle.dl_io.specs.Outside.{Rose}
 use Rattle.dl_io.specs.House.{HouseState, opened_in, opened_out, settled_in, settled_out}
 use Rattle.dl_io.specs.declared.house.OpenStop.{OpenStop}
 use Rattle.dl_io.specs.declared.house.OpenStop.TheVariants.{Failed, Memory}
 use Rattle.dl_sessions.specs.Served.{Told}
-use Rattle.dl_journal.specs.Names.{output_name, output_names, is_among, AreDistinct, AreApart}
+use Rattle.dl_words.specs.Names.{output_name, output_names, is_among, AreDistinct, AreApart, GrowsBy}
 use Rattle.dl_journal.specs.declared.named.Named.{Named}
 
 -- the names of sessions, in order
@@ -71,10 +71,6 @@ abbrev pub AreOpen : HouseState → List (List ℕ) → List Told → Type 0
 AreOpen house names [] = Unit {0}
 AreOpen house [] (t ∷ ts) = ⊥
 AreOpen house (name ∷ names) (t ∷ ts) = IsOpen house name t × AreOpen house names ts
-
--- a list grew by the first of these names
-abbrev pub GrowsBy : List (List ℕ) → List (List ℕ) → List (List ℕ) → Type 0
-GrowsBy old new names = (first : List (List ℕ)) × (more : List (List ℕ)) × (names ≡ first ++ more) × (new ≡ old ++ first)
 
 -- the house's own count rose where an opening failed, and no count where there was no memory
 abbrev pub HasStopCause : HouseState → HouseState → OpenStop → Type 0

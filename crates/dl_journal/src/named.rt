@@ -1,7 +1,7 @@
 //! The names of sessions.
 
 ghost use Rattle.std.specs.Prelude.{◌≡◌, ◌++◌, codes, map, string_bytes, IfOk};
-ghost use Rattle.dl_journal.specs.Names.{output_name};
+ghost use Rattle.dl_words.specs.Names.{output_name};
 
 use dl_base::Memory;
 use std::alloc::Global;

@@ -1,7 +1,7 @@
 //! Streams by the names of sessions.
 
 ghost use Rattle.std.specs.Prelude.{◌≡◌, ◌≤◌, ◌∷◌, [], true, false, map, length, vec_len, vec_capacity, string_bytes, IfOk, IfErr, OnOk};
-ghost use Rattle.dl_journal.specs.Names.{AreDistinct};
+ghost use Rattle.dl_words.specs.Names.{AreDistinct};
 ghost use Rattle.dl_sessions.specs.Served.{told};
 ghost use Rattle.dl_journal.specs.Streams.{names_of, MayOpen, opened_pair, opened_all, settled_pair, settled_all, IsFresh, AreFresh, AreOpen, Undoes};
 

@@ -4,7 +4,7 @@ ghost use Rattle.std.specs.Prelude.{◌≤◌};
 
 use crate::texts::sink;
 use dl_calls::{Call, Entry, Reply, write_entry};
-use dl_gen::{make_calls, make_theory};
+use dl_draw::{make_calls, make_theory};
 use dl_io::{Failed, MemorySink};
 use dl_print::{write_edit, write_pair, write_rule, write_theory};
 use dl_theory::{Edit, Kind, Pair, Rule, Theory};

@@ -1,11 +1,11 @@
 use Rattle.dl_io.specs.House.{standard}
 use Rattle.std.proofs.Common.{[], ◌∷◌, true, refl, sym, ap, arith}
-use Rattle.ddl.specs.declared.check.Checked.{Checked}
-use Rattle.ddl.specs.declared.check.Checked.TheVariants.{Accepted}
-use Rattle.ddl.specs.declared.check.Checked.TheVariants as checked
-use Rattle.ddl.specs.declared.reply.Reply.TheVariants as reply
-use Rattle.ddl.specs.declared.status.Status.TheVariants.{Done, Refused, Rejected}
-use Rattle.ddl.specs.Replies.{reply_status}
+use Rattle.dl_replies.specs.declared.checked.Checked.{Checked}
+use Rattle.dl_replies.specs.declared.checked.Checked.TheVariants.{Accepted}
+use Rattle.dl_replies.specs.declared.checked.Checked.TheVariants as checked
+use Rattle.dl_replies.specs.declared.reply.Reply.TheVariants as reply
+use Rattle.dl_files.specs.declared.status.Status.TheVariants.{Done, Refused, Rejected}
+use Rattle.dl_replies.specs.Replies.{reply_status}
 use Rattle.ddl.proofs.Exact.{ends_so, check_unserved, certificate_ends}
 use Rattle.ddl.proofs.law.certificates_are_judged.Goals as goal
 

@@ -1,10 +1,10 @@
 use Rattle.std.proofs.Common.{◌≡◌, ◌⊎◌, [], ◌∷◌, None, true, inl, inr, refl, sym}
 use Rattle.dl_io.specs.House.{standard}
-use Rattle.ddl.specs.declared.status.Status.TheVariants.{Done, Refused, Memory}
+use Rattle.dl_files.specs.declared.status.Status.TheVariants.{Done, Refused, Memory}
 use Rattle.dl_theory.specs.Lists.{TheoryLists}
-use Rattle.ddl.specs.declared.refusal.Refusal.{Refusal}
-use Rattle.ddl.specs.Theories.{IsTheoryFile, IsRefusal}
-use Rattle.ddl.specs.Words.{form}
+use Rattle.dl_files.specs.declared.refusal.Refusal.{Refusal}
+use Rattle.dl_files.specs.Theories.{IsTheoryFile, IsRefusal}
+use Rattle.dl_words.specs.Words.{form}
 use Rattle.ddl.proofs.Exact.{ends_so, usage_of, serves_otherwise, done_loads, shown_loads, shown_refused, run_done, alone_unserved, run_unserved, refused_unserved, loads_done, refused_refused}
 use Rattle.ddl.proofs.law.statuses_are_exact.Goals as goal
 

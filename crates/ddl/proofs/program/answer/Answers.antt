@@ -4,11 +4,11 @@ use Rattle.std.specs.Prelude.{Result}
 use Rattle.dl_io.specs.Outside.{Rose}
 use Rattle.dl_io.specs.Streams.{IsKnownFront}
 use Rattle.dl_journal.specs.Streams.{begun}
-use Rattle.ddl.specs.declared.reply.Reply.{Reply}
-use Rattle.ddl.specs.declared.status.Status.TheVariants.{Fault}
-use Rattle.ddl.specs.declared.whole.Stop.{Stop}
-use Rattle.ddl.specs.Serving.{SaysTo}
-use Rattle.ddl.proofs.Handing.{handed_front}
+use Rattle.dl_replies.specs.declared.reply.Reply.{Reply}
+use Rattle.dl_files.specs.declared.status.Status.TheVariants.{Fault}
+use Rattle.dl_files.specs.declared.whole.Stop.{Stop}
+use Rattle.ddl.specs.Answering.{SaysTo}
+use Rattle.dl_files.proofs.Fronts.{handed_front}
 use Rattle.ddl.proofs.program.answer.Goals as goal
 
 pub returns-in-Err-clause-said : goal.returns-in-Err-clause-said

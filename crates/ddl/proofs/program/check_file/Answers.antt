@@ -1,6 +1,6 @@
 use Rattle.std.proofs.Common.{string_bytes}
-use Rattle.ddl.specs.Certified.{SaysOfCertificate}
-use Rattle.ddl.proofs.Loading.{holds_so}
+use Rattle.dl_replies.specs.Certified.{SaysOfCertificate}
+use Rattle.dl_files.proofs.Loading.{holds_so}
 use Rattle.ddl.proofs.program.check_file.Goals as goal
 
 pub returns-clause-said : goal.returns-clause-said

@@ -1,11 +1,11 @@
 use Rattle.std.proofs.Common.{◌∙◌, ℕ, List, [], ◌∷◌, ◌++◌, Option, inl, inr, refl, ap, sym, subst, append_assoc, string_bytes}
 use Rattle.std.specs.Prelude.{Err}
-use Rattle.ddl.specs.declared.reply.Reply.{Reply}
+use Rattle.dl_replies.specs.declared.reply.Reply.{Reply}
 use Rattle.std.proofs.lemmas.Result.{err_from_is_err_and}
 use Rattle.dl_theory.specs.Lists.{TheoryLists}
-use Rattle.ddl.specs.declared.theory_file.Loaded.{Loaded}
-use Rattle.ddl.specs.Theories.{IsLoaded}
-use Rattle.ddl.specs.Words.{Check}
+use Rattle.dl_files.specs.declared.theory_file.Loaded.{Loaded}
+use Rattle.dl_files.specs.Theories.{IsLoaded}
+use Rattle.dl_words.specs.Words.{Check}
 use Rattle.ddl.specs.Run.{refused}
 use Rattle.ddl.proofs.Certifying.{certificate_shown, fault_after, reads_first, reads_both}
 use Rattle.ddl.proofs.program.check_files.Goals as goal

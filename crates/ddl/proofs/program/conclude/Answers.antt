@@ -1,8 +1,8 @@
 use Rattle.std.proofs.Common.{refl, subst}
 use Rattle.dl_graph.specs.Numbers.{NetLists}
-use Rattle.ddl.specs.declared.theory_file.Loaded.{Loaded}
-use Rattle.ddl.specs.Theories.{IsLoaded}
-use Rattle.ddl.specs.Words.{Conclude}
+use Rattle.dl_files.specs.declared.theory_file.Loaded.{Loaded}
+use Rattle.dl_files.specs.Theories.{IsLoaded}
+use Rattle.dl_words.specs.Words.{Conclude}
 use Rattle.ddl.specs.Run.{concluded, refused}
 use Rattle.ddl.proofs.program.conclude.Goals as goal
 

@@ -1,8 +1,8 @@
 use Rattle.std.proofs.Common.{refl, subst}
 use Rattle.dl_theory.specs.Lists.{TheoryLists}
-use Rattle.ddl.specs.declared.theory_file.Loaded.{Loaded}
-use Rattle.ddl.specs.Theories.{IsLoaded}
-use Rattle.ddl.specs.Words.{Print}
+use Rattle.dl_files.specs.declared.theory_file.Loaded.{Loaded}
+use Rattle.dl_files.specs.Theories.{IsLoaded}
+use Rattle.dl_words.specs.Words.{Print}
 use Rattle.ddl.specs.Run.{printed, refused}
 use Rattle.ddl.proofs.program.print_of.Goals as goal
 

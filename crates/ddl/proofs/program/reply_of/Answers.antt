@@ -1,7 +1,8 @@
 use Rattle.std.proofs.Common.{[], ◌∷◌, Some, refl, sym, subst, string_bytes, append-nil}
-use Rattle.ddl.specs.declared.words.Command.{Command}
-use Rattle.ddl.specs.Words.{form_of}
-use Rattle.ddl.specs.Run.{Replies, ReadsOnly, files_for}
+use Rattle.dl_words.specs.declared.words.Command.{Command}
+use Rattle.dl_words.specs.Words.{form_of}
+use Rattle.ddl.specs.Run.{Replies, files_for}
+use Rattle.dl_files.specs.Reading.{ReadsOnly}
 use Rattle.ddl.proofs.Certifying.{reads_nothing}
 use Rattle.ddl.proofs.program.reply_of.Goals as goal
 

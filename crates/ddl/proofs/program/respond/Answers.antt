@@ -1,9 +1,9 @@
 use Rattle.std.proofs.Common.{◌≡◌, [], Option, Some, None, refl, sym, subst, map, string_bytes, append-nil}
-use Rattle.ddl.specs.declared.words.Asked.{Asked}
-use Rattle.ddl.specs.declared.reply.Reply.TheVariants.{Usage}
+use Rattle.dl_words.specs.declared.words.Asked.{Asked}
+use Rattle.dl_replies.specs.declared.reply.Reply.TheVariants.{Usage}
 use Rattle.ddl.specs.Run.{usage}
-use Rattle.ddl.specs.Serving.{Works}
-use Rattle.ddl.specs.Words.{Form, form, form_of, asked_form}
+use Rattle.ddl.specs.Answering.{Works}
+use Rattle.dl_words.specs.Words.{Form, form, form_of, asked_form}
 use Rattle.ddl.proofs.Answering.{command_unserved, command_works, printed_answers, result_answers}
 use Rattle.ddl.proofs.program.respond.Goals as goal
 

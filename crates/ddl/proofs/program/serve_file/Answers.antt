@@ -1,17 +1,17 @@
 use Rattle.std.proofs.Common.{◌≡◌, ◌∙◌, ℕ, List, [], Bool, Some, Err, inr, refl, sym, ap, subst, map, string_bytes, true}
 use Rattle.dl_theory.specs.Lists.{TheoryLists}
-use Rattle.ddl.specs.declared.reply.Reply.{Reply}
-use Rattle.ddl.specs.declared.theory_file.Loaded.{Loaded}
-use Rattle.ddl.specs.declared.whole.Stop.{Stop}
-use Rattle.ddl.specs.declared.whole.Stop.TheVariants.{Fault, Memory}
-use Rattle.ddl.specs.declared.status.Status.TheVariants as status
-use Rattle.ddl.specs.declared.reply.Reply.TheVariants.{Refused}
-use Rattle.ddl.specs.Serving.{CountsBy}
-use Rattle.ddl.specs.Theories.{IsLoaded, IsTheoryFile, IsRefusal}
-use Rattle.ddl.specs.Whole.{HasFault}
-use Rattle.ddl.specs.Words.{Serve}
-use Rattle.ddl.proofs.Naming.{servable}
-use Rattle.ddl.proofs.Serves.{may_open, serves, works}
+use Rattle.dl_replies.specs.declared.reply.Reply.{Reply}
+use Rattle.dl_files.specs.declared.theory_file.Loaded.{Loaded}
+use Rattle.dl_files.specs.declared.whole.Stop.{Stop}
+use Rattle.dl_files.specs.declared.whole.Stop.TheVariants.{Fault, Memory}
+use Rattle.dl_files.specs.declared.status.Status.TheVariants as status
+use Rattle.dl_replies.specs.declared.reply.Reply.TheVariants.{Refused}
+use Rattle.dl_files.specs.Reading.{CountsBy}
+use Rattle.dl_files.specs.Theories.{IsLoaded, IsTheoryFile, IsRefusal}
+use Rattle.dl_files.specs.Whole.{HasFault}
+use Rattle.dl_words.specs.Words.{Serve}
+use Rattle.dl_words.proofs.Naming.{servable}
+use Rattle.dl_serving.proofs.Serves.{may_open, serves, works}
 use Rattle.ddl.proofs.Answering.{theory_works, printed_answers, unread_answers, refused_replies}
 use Rattle.ddl.proofs.program.serve_file.Goals as goal
 

@@ -4,9 +4,9 @@ use Rattle.rayon.proofs.ListFacts.{AllZip-weaken}
 use Rattle.rayon.proofs.ToStd.{slice-AllZip}
 use Rattle.dl_base.specs.declared.memory.Memory.{Memory}
 use Rattle.dl_conclusions.specs.declared.conclusion.Conclusion.{Conclusion}
-use Rattle.dl_gen.specs.declared.families.Answers.{Answers}
-use Rattle.dl_gen.specs.Answers.{IsAnswered}
-use Rattle.dl_gen.proofs.Gathered.{all_gathered}
+use Rattle.dl_summary.specs.declared.families.Answers.{Answers}
+use Rattle.dl_summary.specs.Answers.{IsAnswered}
+use Rattle.dl_summary.proofs.Gathered.{all_gathered}
 use Rattle.dl_gen.proofs.ask.answers_of.Goals as goal
 
 pub returns : goal.returns

@@ -6,8 +6,8 @@ use Rattle.dl_theory.proofs.Steps.{is_coherent}
 use Rattle.dl_theory.proofs.Consistency.{is_consistent}
 use Rattle.dl_theory.proofs.Inclusions.{is_inclusive}
 use Rattle.dl_conclusions.specs.declared.conclusion.Conclusion.{Conclusion}
-use Rattle.dl_gen.specs.Survey.{IsSurvey}
-use Rattle.dl_gen.proofs.Surveyed.{is_survey, is_nested}
+use Rattle.dl_summary.specs.Survey.{IsSurvey}
+use Rattle.dl_summary.proofs.Surveyed.{is_survey, is_nested}
 use Rattle.dl_gen.proofs.ask.survey.Goals as goal
 
 pub returns-clause-survey : goal.returns-clause-survey

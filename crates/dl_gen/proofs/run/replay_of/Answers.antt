@@ -1,6 +1,6 @@
 use Rattle.std.proofs.Common.{subst}
-use Rattle.dl_gen.specs.Generator.{generated_calls}
-use Rattle.dl_gen.specs.Replaying.{Replays}
+use Rattle.dl_draw.specs.Generator.{generated_calls}
+use Rattle.dl_summary.specs.Replaying.{Replays}
 use Rattle.dl_gen.proofs.run.replay_of.Goals as goal
 
 pub returns : goal.returns

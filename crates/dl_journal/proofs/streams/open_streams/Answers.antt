@@ -2,7 +2,7 @@ use Rattle.std.proofs.Common.{◌∙◌, [], ◌∷◌, ℕ, suc, Some, false, s
 use Rattle.std.specs.Prelude.{slice_get}
 use Rattle.std.proofs.lemmas.List.{length-map, map-append}
 use Rattle.dl_io.specs.House.{HouseState}
-use Rattle.dl_journal.specs.Names.{output_name}
+use Rattle.dl_words.specs.Names.{output_name}
 use Rattle.dl_sessions.specs.Served.{Told, told}
 use Rattle.dl_journal.specs.Streams.{names_of, opened_pair, opened_all, IsFresh, AreFresh, Undoes}
 use Rattle.dl_journal.proofs.Settled.{name_at}

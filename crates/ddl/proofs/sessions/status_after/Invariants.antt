@@ -1,6 +1,0 @@
-use Rattle.std.proofs.Common.{◌≡◌, drop}
-use Rattle.ddl.specs.Serve.{ends_status}
-use Rattle.ddl.proofs.sessions.status_after.Given as goal
-
-abbrev pub invariant-loop-end : goal.invariant-loop-end
-invariant-loop-end l = ends_status (drop l.end-index l.ends) ≡ ends_status l.ends

@@ -1,0 +1,5 @@
+pub mod Whole
+pub mod Reading
+pub mod Theories
+pub mod Handing
+pub mod Statuses

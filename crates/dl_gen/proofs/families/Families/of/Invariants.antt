@@ -1,5 +1,0 @@
-use Rattle.dl_gen.specs.Answers.{AreFamilies}
-use Rattle.dl_gen.proofs.families.Families.of.Given as goal
-
-abbrev pub invariant-loop-answers : goal.invariant-loop-answers
-invariant-loop-answers l = AreFamilies l.yielded l.families

@@ -1,5 +1,0 @@
-use Rattle.std.proofs.Common.{◌≡◌}
-use Rattle.dl_gen.proofs.load.add_rules.Given as goal
-
-abbrev pub invariant-loop-rule : goal.invariant-loop-rule
-invariant-loop-rule l = l.theory ≡ record l.initial.theory { rules = l.yielded }

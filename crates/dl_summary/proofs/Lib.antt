@@ -1,0 +1,4 @@
+pub mod Gathered
+pub mod Nested
+pub mod Surveyed
+pub mod Replayed

@@ -1,0 +1,4 @@
+pub mod Survey
+pub mod Answers
+pub mod Summary
+pub mod Replaying
