@@ -93,6 +93,11 @@ impl<T> Paged<T> {
         self.len
     }
 
+    /// Where its memory comes from.
+    pub fn alloc(&self) -> Global {
+        *self.pages.allocator()
+    }
+
     /// The element at a place, by two look-ups: its page, and the element in it.
     // not inlined, as `put`: who reads a list that may be flat keeps that way short
     #[inline(never)]
@@ -144,6 +149,18 @@ impl<T: Drop> Paged<T> {
 }
 
 impl<T: Clone> Paged<T> {
+    /// An equal list. All pages are shared where none is owned, and copied else. `Memory` where there is none for that.
+    pub fn copy(&self) -> Result<Paged<T>, Memory>
+        requires { IsExact T.is_clone }
+        ensures { IfOk result (λ list. list.items ≡ self.now.items) }
+    {
+        if self.owned.len() == 0 {
+            self.share()
+        } else {
+            copied(self)
+        }
+    }
+
     /// Room for so many elements more. The last page is owned for it, where it has room for more. `Memory` where there is none: the
     /// elements stay, and what is owned.
     pub fn reserve(&mut self, more: usize) -> Result<(), Memory>
@@ -180,6 +197,19 @@ impl<T: Clone> Paged<T> {
     {
         own_page(&mut self.pages, &mut self.owned, at / PAGE)
     }
+}
+
+/// Copies of the elements, in pages of their own.
+fn copied<T: Clone>(list: &Paged<T>) -> Result<Paged<T>, Memory>
+    requires { IsExact T.is_clone }
+    ensures { IfOk result (λ copy. copy.items ≡ list.now.items) }
+{
+    let mut copy = Paged::make(list.alloc());
+    copy.reserve(list.len())?;
+    for at in 0..list.len() {
+        copy.push(list.get(at).clone()?);
+    }
+    Ok(copy)
 }
 
 /// A page is owned from now on, and the others stay. `Memory` where there is none for a copy of it: all pages stay.

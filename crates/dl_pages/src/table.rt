@@ -1,6 +1,6 @@
 //! A list that is flat until it is written after a freeze.
 
-ghost use Rattle.std.specs.Prelude.{◌≡◌, ℕ, ◌+◌, ◌-◌, ◌<◌, ◌≤◌, [], ◌++◌, IfOk, OnOk, OnErr, length, get_or, set, replicate};
+ghost use Rattle.std.specs.Prelude.{◌≡◌, ℕ, ◌+◌, ◌-◌, ◌<◌, ◌≤◌, [], ◌∷◌, ◌++◌, true, IfOk, OnOk, OnErr, length, get_or, set, replicate};
 ghost use Rattle.dl_pages.specs.Paged.{Owns, OwnsNothing, KeepsOwned, IsExact};
 
 use crate::paged::Paged;
@@ -53,6 +53,32 @@ impl<T> Table<T> {
         }
     }
 
+    /// No elements, with room for so many.
+    pub fn with_room(alloc: Global, room: usize) -> Result<Table<T>, Memory>
+        ensures items { IfOk result (λ list. list.items ≡ []) }
+        ensures room { IfOk result (λ list. room ≤ list.spare) }
+    {
+        let items = Vec::with_capacity(alloc, room)?;
+        Ok(Table {
+            form: Form::Flat(items),
+        })
+    }
+
+    /// An element at the end, in room that is there. It is owned. Takes no memory.
+    #[inline(always)]
+    pub fn push(&mut self, value: T)
+        requires { 0 < self.old.spare }
+        ensures items { self.new.items ≡ self.old.items ++ value ∷ [] }
+        ensures owned { self.new.owned ≡ self.old.owned ++ true ∷ [] }
+        ensures spare { self.new.spare + 1 ≡ self.old.spare }
+    {
+        match &mut self.form {
+            Form::Flat(items) => items.push_reserved(value),
+            Form::Whole(_) => unreachable!(),
+            Form::Paged(pages) => pages.push(value),
+        }
+    }
+
     /// How many elements there are. Each place is owned or not.
     #[inline(always)]
     pub fn len(&self) -> usize
@@ -95,6 +121,15 @@ impl<T> Table<T> {
             }
             Form::Whole(_) => unreachable!(),
             Form::Paged(pages) => pages.put(at, value),
+        }
+    }
+
+    /// Where its memory comes from.
+    pub fn alloc(&self) -> Global {
+        match &self.form {
+            Form::Flat(items) => *items.allocator(),
+            Form::Whole(items) => *items.allocator(),
+            Form::Paged(pages) => pages.alloc(),
         }
     }
 }
@@ -145,6 +180,49 @@ impl<T: Drop> Table<T> {
 }
 
 impl<T: Clone> Table<T> {
+    /// Room for so many elements more. A whole list that is shared is copied into pages for it, once. `Memory` where there is none: the
+    /// elements stay, and what is owned.
+    #[inline(always)]
+    pub fn reserve(&mut self, more: usize) -> Result<(), Memory>
+        requires { IsExact T.is_clone }
+        ensures items { self.new.items ≡ self.old.items }
+        ensures owned { KeepsOwned self.old self.new }
+        ensures same_owned { OnErr result (self.new.owned ≡ self.old.owned) }
+        ensures room { OnOk result (more ≤ self.new.spare) }
+    {
+        if let Form::Whole(items) = &self.form {
+            let mut pages = in_pages(*items.allocator(), items.as_slice())?;
+            pages.reserve(more)?;
+            self.form = Form::Paged(pages);
+            return Ok(());
+        }
+        match &mut self.form {
+            Form::Flat(items) => items.reserve(more)?,
+            Form::Whole(_) => unreachable!(),
+            Form::Paged(pages) => pages.reserve(more)?,
+        }
+        Ok(())
+    }
+
+    /// An equal list. What is frozen is shared, at the cost of one pointer or of one for each page; a list of which some is owned is copied
+    /// whole. `Memory` where there is none for that.
+    pub fn copy(&self) -> Result<Table<T>, Memory>
+        requires { IsExact T.is_clone }
+        ensures { IfOk result (λ list. list.items ≡ self.now.items) }
+    {
+        match &self.form {
+            Form::Flat(items) => Ok(Table {
+                form: Form::Flat(cloned(*items.allocator(), items.as_slice())?),
+            }),
+            Form::Whole(items) => Ok(Table {
+                form: Form::Whole(Arc::try_clone(items)?),
+            }),
+            Form::Paged(pages) => Ok(Table {
+                form: Form::Paged(pages.copy()?),
+            }),
+        }
+    }
+
     /// The place may be written from now on. The one page that it is in is copied where it is shared, and no other; a whole list that is shared
     /// is copied into pages, once. `Memory` where there is none for the copy: the elements stay, and what is owned.
     pub fn own(&mut self, at: usize) -> Result<(), Memory>
@@ -199,6 +277,16 @@ impl<T: Copy> Table<T> {
         }
         Ok(())
     }
+}
+
+/// Copies of the elements.
+fn cloned<T: Clone>(alloc: Global, items: &[T]) -> Result<Vec<T>, Memory>
+    requires { IsExact T.is_clone }
+    ensures { IfOk result (λ copy. copy.items ≡ items.now) }
+{
+    let mut copy = Vec::new(alloc);
+    copy.extend_with_clones(items)?;
+    Ok(copy)
 }
 
 /// Copies of the elements, in pages.
