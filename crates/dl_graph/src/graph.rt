@@ -14,7 +14,7 @@ use crate::rule_ref::RuleRef;
 use dl_lists::{FactNumbers, PairNumbers, RuleLabels};
 use dl_lit::{Literal, LiteralRef, Name};
 use dl_names::{PairedNames, other};
-use dl_rows::Table;
+use dl_pages::Table;
 use dl_rules::Index;
 use std::marker::Model;
 

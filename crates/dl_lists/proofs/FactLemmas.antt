@@ -10,9 +10,11 @@ use Rattle.std.proofs.lemmas.List.FromFn.{length-range_with_len, get_or-range_wi
 use Rattle.dl_base.specs.Paths.{IsDistinct}
 use Rattle.dl_base.proofs.Distinct.{no_longer}
 use Rattle.dl_rows.specs.There.{there, HasNumber, IsOnce}
-use Rattle.dl_rows.specs.Listed.{Listed}
+use Rattle.dl_pages.specs.Paged.{PagedItems}
 use Rattle.dl_lists.specs.declared.fact_numbers.FactNumbers.TheInside.{Inside}
-use Rattle.dl_lists.specs.KeptFacts.{ArePlaced, ArePlacedIn, IsKeptFacts}
+use Rattle.dl_lists.specs.KeptFacts.{ready_of, leaving_of, ArePlaced, ArePlacedIn, HasFactRoom, CanLeave, HasRoom, IsKeptFacts}
+use Rattle.dl_lists.specs.declared.fact_numbers.Room.{Room}
+use Rattle.dl_lists.specs.declared.fact_numbers.Room.TheVariants.{Nothing, ForFact, ForDrop}
 use Rattle.dl_rows.proofs.There.{has_within, has_push, push_has, has_last, has_drop, drop_has, has_there, there_has, once_push, once_drop, distinct_once, there_some, live_push, live_drop}
 
 -- ---- literals stay below their bound
@@ -134,24 +136,34 @@ module _ (xs : List (Option ℕ)) (k w : ℕ) (ps : List (Option ℕ)) (lt : k <
 
 -- ---- where there are places at all
 
-pub placed_width : (xs : List (Option ℕ)) (w : ℕ) (o : Option (Listed (Option ℕ))) → ArePlacedIn xs w o → IfSome o (λ p. length p.items ≡ w)
+pub placed_width : (xs : List (Option ℕ)) (w : ℕ) (o : Option (PagedItems (Option ℕ))) → ArePlacedIn xs w o → IfSome o (λ p. length p.items ≡ w)
 placed_width xs w None h = tt
 placed_width xs w (Some p) h = h.wide
 
-pub placed_below : (xs : List (Option ℕ)) (w : ℕ) (o : Option (Listed (Option ℕ))) (literal : ℕ) → ArePlacedIn xs w o → literal < w
+pub placed_below : (xs : List (Option ℕ)) (w : ℕ) (o : Option (PagedItems (Option ℕ))) (literal : ℕ) → ArePlacedIn xs w o → literal < w
     → IfSome o (λ p. literal < length p.items)
 placed_below xs w o literal h lt = IfSome_then o (placed_width xs w o h) (λ p e. omega (arith, lt, e))
 
-pub placed_least : (xs : List (Option ℕ)) (w v : ℕ) (o : Option (Listed (Option ℕ))) → ArePlacedIn xs w o → w ≤ v
+pub placed_least : (xs : List (Option ℕ)) (w v : ℕ) (o : Option (PagedItems (Option ℕ))) → ArePlacedIn xs w o → w ≤ v
     → IfSome o (λ p. length p.items ≤ v)
 placed_least xs w v o h le = IfSome_then o (placed_width xs w o h) (λ p e. omega (arith, le, e))
+
+-- ---- what is prepared
+
+ready_fact : (r : Room) (literal : ℕ) → ready_of r ≡ Some literal → r ≡ ForFact literal
+ready_fact Nothing literal e = cc
+ready_fact (ForFact q) literal e = let same : q ≡ literal = cc in ap ForFact same
+ready_fact (ForDrop q k) literal e = cc
+
+pub room_ready : (a : Inside) (literal : ℕ) → IsKeptFacts a → ready_of a.room ≡ Some literal → HasFactRoom a.facts a.places a.width literal
+room_ready a literal h e = subst (λ (r : Room). HasRoom a.facts a.places a.width r) (ready_fact a.room literal e) h.room
 
 -- ---- a list of facts as its fields hold it
 
 pub kept_put : (a b : Inside) (literal : ℕ) → IsKeptFacts a → literal < a.width → (¬ Contains (there a.facts.items) literal)
     → length a.facts.items < 4294967295 → b.facts.items ≡ a.facts.items ++ Some literal ∷ [] → b.width ≡ a.width
-    → ArePlacedIn (a.facts.items ++ Some literal ∷ []) a.width b.places → b.live ≡ a.live + 1 → IsKeptFacts b
-kept_put a b literal h lt new few items width placed live = record {
+    → ArePlacedIn (a.facts.items ++ Some literal ∷ []) a.width b.places → b.live ≡ a.live + 1 → HasRoom b.facts b.places b.width b.room → IsKeptFacts b
+kept_put a b literal h lt new few items width placed live room = record {
   within = λ q n has. subst (λ (w : ℕ). q < w) (sym width)
       (within_put a.facts.items a.width literal h.within lt q n (subst (λ (xs : List (Option ℕ)). HasNumber xs q n) items has));
   once = subst (λ (xs : List (Option ℕ)). IsOnce xs) (sym items) (once_push a.facts.items literal h.once new);
@@ -166,12 +178,13 @@ kept_put a b literal h lt new few items width placed live = record {
   );
   narrow = omega (arith, h.narrow, width);
   few = omega (arith, few, ap (λ (xs : List (Option ℕ)). length xs) items, length_push a.facts.items (Some literal));
+  room = room;
 }
 
 pub kept_drop : (a b : Inside) (literal k : ℕ) → IsKeptFacts a → HasNumber a.facts.items literal k
     → b.facts.items ≡ set a.facts.items k None → b.width ≡ a.width
-    → ArePlacedIn (set a.facts.items k None) a.width b.places → b.live + 1 ≡ a.live → IsKeptFacts b
-kept_drop a b literal k h at items width placed live = record {
+    → ArePlacedIn (set a.facts.items k None) a.width b.places → b.live + 1 ≡ a.live → HasRoom b.facts b.places b.width b.room → IsKeptFacts b
+kept_drop a b literal k h at items width placed live room = record {
   within = λ q n has. subst (λ (w : ℕ). q < w) (sym width)
       (within_drop a.facts.items a.width k h.within q n (subst (λ (xs : List (Option ℕ)). HasNumber xs q n) items has));
   once = subst (λ (xs : List (Option ℕ)). IsOnce xs) (sym items) (once_drop a.facts.items k h.once);
@@ -186,6 +199,7 @@ kept_drop a b literal k h at items width placed live = record {
   );
   narrow = omega (arith, h.narrow, width);
   few = omega (arith, h.few, ap (λ (xs : List (Option ℕ)). length xs) items, length-set a.facts.items k None);
+  room = room;
 }
 
 -- distinct numbers below a bound are no more than it
@@ -197,8 +211,8 @@ few_below xs w below distinct =
 
 -- facts of which none has gone
 pub kept_all : (b : Inside) (xs : List ℕ) → b.facts.items ≡ map Some xs → All (λ q. q < b.width) xs → IsDistinct xs → b.width ≤ 4294967295
-    → ArePlacedIn (map Some xs) b.width b.places → b.live ≡ length xs → IsKeptFacts b
-kept_all b xs items below distinct narrow placed live = record {
+    → ArePlacedIn (map Some xs) b.width b.places → b.live ≡ length xs → HasRoom b.facts b.places b.width b.room → IsKeptFacts b
+kept_all b xs items below distinct narrow placed live room = record {
   within = λ q n has.
       let stands : Contains (there (map Some xs)) q = has_there (map Some xs) q n (subst (λ (l : List (Option ℕ)). HasNumber l q n) items has) in
       All-contains (λ k. k < b.width) xs q below (subst (λ (l : List ℕ). Contains l q) (there_some xs) stands);
@@ -214,12 +228,13 @@ kept_all b xs items below distinct narrow placed live = record {
     length-map xs (λ (n : ℕ). Some n),
     ap (λ (l : List (Option ℕ)). length l) items,
   );
+  room = room;
 }
 
 -- the facts stay, and the bound may rise
 pub kept_wider : (a b : Inside) → IsKeptFacts a → b.facts.items ≡ a.facts.items → a.width ≤ b.width → b.width ≤ 4294967295
-    → ArePlacedIn a.facts.items b.width b.places → b.live ≡ a.live → IsKeptFacts b
-kept_wider a b h items wider narrow placed live = record {
+    → ArePlacedIn a.facts.items b.width b.places → b.live ≡ a.live → HasRoom b.facts b.places b.width b.room → IsKeptFacts b
+kept_wider a b h items wider narrow placed live room = record {
   within = λ q n has.
       let lt : q < a.width = h.within q n (subst (λ (xs : List (Option ℕ)). HasNumber xs q n) items has) in
       omega (arith, lt, wider);
@@ -228,4 +243,5 @@ kept_wider a b h items wider narrow placed live = record {
   live = live ∙ h.live ∙ sym (ap (λ (xs : List (Option ℕ)). length (there xs)) items);
   narrow = narrow;
   few = omega (arith, h.few, ap (λ (xs : List (Option ℕ)). length xs) items);
+  room = room;
 }

@@ -5,12 +5,15 @@ use Rattle.std.proofs.lemmas.Bool.{cases_eq}
 use Rattle.std.proofs.lemmas.List.{length-take-le, take_more, length-map, length-set, length_push}
 use Rattle.std.proofs.lemmas.List.Elements.{Contains-push, Contains-append_left}
 use Rattle.dl_base.proofs.Filters.{Contains-kept}
-use Rattle.dl_rows.specs.Tables.{RowLists, list_at, drop_item, KeepsLists}
+use Rattle.dl_base.proofs.Members.{Contains-filtered}
+use Rattle.dl_rows.specs.Tables.{RowLists, list_at, drop_item, KeepsLists, IsOpen, spare_at}
 use Rattle.dl_rows.proofs.NumberLists.{differ}
 use Rattle.dl_sup.specs.declared.link.Link.{Link}
 use Rattle.dl_lists.specs.declared.pair_numbers.PairNumbers.TheInside.{Inside}
 use Rattle.dl_rows.specs.There.{there, HasNumber}
-use Rattle.dl_lists.specs.KeptPairs.{pair_in, pairs_in, ArePlaced, ArePlacedIn, HasRoom, IsKeptPairs}
+use Rattle.dl_lists.specs.declared.pair_numbers.Room.{Room}
+use Rattle.dl_lists.specs.declared.pair_numbers.Room.TheVariants.{Nothing, ForPair, ForDrop, ForRule}
+use Rattle.dl_lists.specs.KeptPairs.{pair_in, pairs_in, clearing_of, ArePlaced, ArePlacedIn, CanClearIn, HasRoom, IsKeptPairs}
 use Rattle.dl_rows.proofs.There.{push_has, drop_has, live_push, live_drop}
 
 -- ---- one list of a table changes
@@ -46,11 +49,27 @@ row_left t t' h n removed s m other has =
     by true = Contains-kept (λ y. not (y == n)) (list_at t s) m has (ap not (differ m n other))
     by false = has
 
+-- and none more
+pub row_less : (t t' : RowLists) (h n : ℕ) → ((s : ℕ) → list_at t' s ≡ cond (s == h) (drop_item n (list_at t s)) (list_at t s))
+    → (s m : ℕ) → Contains (list_at t' s) m → Contains (list_at t s) m
+row_less t t' h n removed s m has = by (s == h) (subst (λ (l : List ℕ). Contains l m) (removed s) has)
+  where
+    by : (b : Bool) → Contains (cond b (drop_item n (list_at t s)) (list_at t s)) m → Contains (list_at t s) m
+    by true there = Contains-filtered (λ y. not (y == n)) (list_at t s) m there
+    by false there = there
+
 -- a list that is emptied, and from which no number is missed
 pub row_cleared : (t t' : RowLists) (h : ℕ) → ((s : ℕ) → list_at t' s ≡ cond (s == h) [] (list_at t s))
     → (s m : ℕ) → s ≢ h → Contains (list_at t s) m → Contains (list_at t' s) m
 row_cleared t t' h cleared s m other has =
     subst (λ (l : List ℕ). Contains l m) (sym (cleared s ∙ ap (λ b. cond b [] (list_at t s)) (differ s h other))) has
+
+-- a list that may be written still may, where no list has less room
+pub open_kept : (t t' : RowLists) (s : ℕ) → KeepsLists t t' → length t'.lists ≡ length t.lists → IsOpen t s → IsOpen t' s
+open_kept t t' s k same open_then lt = omega (arith, k.room s, open_then (omega (arith, lt, same)))
+
+pub open_left : (t t' : RowLists) (s : ℕ) → ((n : ℕ) → spare_at t n ≤ spare_at t' n) → length t'.lists ≡ length t.lists → IsOpen t s → IsOpen t' s
+open_left t t' s room same open_then lt = omega (arith, room s, open_then (omega (arith, lt, same)))
 
 -- ---- the pairs of each rule
 
@@ -118,7 +137,7 @@ module _ (xs : List (Option Link)) (k : ℕ) (us ls us' ls' : RowLists) (lt : k 
 -- ---- a list of pairs as its fields hold it
 
 pub kept_by : (b : Inside) (items : List (Option Link)) → pairs_in b.pairs.items ≡ items → ArePlacedIn items b.places
-    → b.live ≡ length (there items) → length items ≤ 4294967295 → HasRoom b b.ready → IsKeptPairs b
+    → b.live ≡ length (there items) → length items ≤ 4294967295 → HasRoom b.pairs b.places b.room → IsKeptPairs b
 kept_by b items e placed live few room = record {
   placed = subst (λ (xs : List (Option Link)). ArePlacedIn xs b.places) (sym e) placed;
   live = live ∙ sym (ap (λ (xs : List (Option Link)). length (there xs)) e);
@@ -127,14 +146,14 @@ kept_by b items e placed live few room = record {
 }
 
 pub kept_same : (a b : Inside) → IsKeptPairs a → b.pairs.items ≡ a.pairs.items → ArePlacedIn (pairs_in a.pairs.items) b.places
-    → b.live ≡ a.live → HasRoom b b.ready → IsKeptPairs b
+    → b.live ≡ a.live → HasRoom b.pairs b.places b.room → IsKeptPairs b
 kept_same a b h items placed live room =
     kept_by b (pairs_in a.pairs.items) (ap pairs_in items) placed (live ∙ h.live)
     (omega (arith, h.few, length-map a.pairs.items pair_in)) room
 
 pub kept_put : (a b : Inside) (pair : Link) → IsKeptPairs a → length a.pairs.items < 4294967295
     → pairs_in b.pairs.items ≡ pairs_in a.pairs.items ++ Some pair ∷ [] → ArePlacedIn (pairs_in a.pairs.items ++ Some pair ∷ []) b.places
-    → b.live ≡ a.live + 1 → HasRoom b b.ready → IsKeptPairs b
+    → b.live ≡ a.live + 1 → HasRoom b.pairs b.places b.room → IsKeptPairs b
 kept_put a b pair h few items placed live room =
     let xs : List (Option Link) = pairs_in a.pairs.items in
     kept_by b (xs ++ Some pair ∷ []) items placed (omega (arith, live, h.live, live_push xs pair))
@@ -142,7 +161,7 @@ kept_put a b pair h few items placed live room =
 
 pub kept_drop : (a b : Inside) (pair : Link) (k : ℕ) → IsKeptPairs a → HasNumber (pairs_in a.pairs.items) pair k
     → pairs_in b.pairs.items ≡ set (pairs_in a.pairs.items) k None → ArePlacedIn (set (pairs_in a.pairs.items) k None) b.places
-    → b.live + 1 ≡ a.live → HasRoom b b.ready → IsKeptPairs b
+    → b.live + 1 ≡ a.live → HasRoom b.pairs b.places b.room → IsKeptPairs b
 kept_drop a b pair k h at items placed live room =
     let xs : List (Option Link) = pairs_in a.pairs.items in
     kept_by b (set xs k None) items placed (omega (arith, live, h.live, live_drop xs pair k at))

@@ -1,11 +1,11 @@
 -- How the fields of a list of labels hold it.
-use Rattle.std.specs.Prelude.{◌≡◌, ℕ, ◌+◌, ◌<◌, Option, None, Some, true, List, map, length}
+use Rattle.std.specs.Prelude.{◌≡◌, ℕ, ◌+◌, ◌<◌, Option, None, Some, List, map, length}
 use Rattle.dl_lists.specs.declared.rule_labels.Ready.{Ready}
 use Rattle.dl_lists.specs.declared.rule_labels.Ready.TheVariants.{Nothing, New, Again}
 use Rattle.dl_lists.specs.declared.rule_labels.RuleLabels.TheInside.{Inside}
 use Rattle.dl_lists.specs.Labels.{LabelLists}
 use Rattle.dl_lists.specs.Names.{NameLists, name_at}
-use Rattle.dl_lists.specs.Entries.{EntryLists, AreEntered}
+use Rattle.dl_lists.specs.Entries.{EntryLists, CanRepeat, AreEntered}
 
 abbrev pub ready_of : List (List ℕ) → ℕ → Ready → Option (List ℕ)
 ready_of names count Nothing = None
@@ -23,7 +23,7 @@ abbrev pub HasRoom : EntryLists → NameLists → Ready → Type 0
 HasRoom entries names Nothing = length names.keys ≡ entries.count
 HasRoom entries names New = (length names.keys ≡ entries.count + 1) × (0 < names.later) × (0 < entries.spare)
 HasRoom entries names (Again entry) =
-    (length names.keys ≡ entries.count) × (0 < entries.spare) × (entry < entries.count) × (entries.apart ≡ true)
+    (length names.keys ≡ entries.count) × (0 < entries.spare) × (entry < entries.count) × CanRepeat entries entry
 
 pub record IsKeptLabels (a : Inside) : Type 0 where
   pub entered : AreEntered a.entries.entries a.entries.count

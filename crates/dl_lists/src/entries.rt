@@ -1,13 +1,13 @@
 //! Which of some labels each number has.
 
-ghost use Rattle.std.specs.Prelude.{◌≡◌, ◌+◌, ◌<◌, ◌≤◌, [], ◌∷◌, ◌++◌, true, OnOk, IfOk, IfSome, IfNone, length, get_or};
+ghost use Rattle.std.specs.Prelude.{◌≡◌, ℕ, ◌+◌, ◌<◌, ◌≤◌, [], ◌∷◌, ◌++◌, true, OnOk, IfOk, IfSome, IfNone, length, get_or};
 ghost use Rattle.std.specs.List.{range_with_len};
 ghost use Rattle.dl_lists.specs.Last.{IsLast};
-ghost use Rattle.dl_lists.specs.Entries.{no_entries};
+ghost use Rattle.dl_lists.specs.Entries.{no_entries, CanRepeat};
 
 use crate::slots::EMPTY;
 use dl_base::Memory;
-use dl_rows::Table;
+use dl_pages::Table;
 use std::alloc::Global;
 use std::marker::Model;
 
@@ -70,6 +70,7 @@ impl Entries {
         ensures entries { self.new.entries ≡ self.old.entries }
         ensures count { self.new.count ≡ self.old.count }
         ensures apart { self.new.apart ≡ self.old.apart }
+        ensures again { (e : ℕ) → CanRepeat self.old e → CanRepeat self.new e }
         ensures room { OnOk result (0 < self.new.spare) }
     {
         if self.len() >= EMPTY {
@@ -78,8 +79,8 @@ impl Entries {
         match &mut self.form {
             Form::Same(_) => {}
             Form::Apart(columns) => {
-                columns.lasts.reserve()?;
-                columns.entries.reserve()?;
+                columns.lasts.reserve(1)?;
+                columns.entries.reserve(1)?;
             }
         }
         Ok(())
@@ -99,6 +100,21 @@ impl Entries {
         Ok(())
     }
 
+    /// Takes the memory for an entry to come once more. Entries can come twice.
+    pub fn prepare_again(&mut self, entry: usize) -> Result<(), Memory>
+        requires apart { self.old.apart ≡ true }
+        requires entry { entry < self.old.count }
+        ensures entries { self.new.entries ≡ self.old.entries }
+        ensures count { self.new.count ≡ self.old.count }
+        ensures apart { self.new.apart ≡ true }
+        ensures again { OnOk result (CanRepeat self.new entry) }
+    {
+        match &mut self.form {
+            Form::Same(_) => unreachable!(),
+            Form::Apart(columns) => columns.lasts.own(entry),
+        }
+    }
+
     /// One more number, with one more entry.
     #[inline(always)]
     pub fn push_new(&mut self)
@@ -116,18 +132,18 @@ impl Entries {
         }
     }
 
-    /// One more number, with an entry that is there.
+    /// One more number, with an entry that is there, and for which there is memory to come once more.
     pub fn push_again(&mut self, entry: usize)
         requires room { 0 < self.old.spare }
         requires entry { entry < self.old.count }
-        requires apart { self.old.apart ≡ true }
+        requires again { CanRepeat self.old entry }
         ensures entries { self.new.entries ≡ self.old.entries ++ entry ∷ [] }
         ensures count { self.new.count ≡ self.old.count }
     {
         match &mut self.form {
             Form::Same(_) => unreachable!(),
             Form::Apart(columns) => {
-                columns.lasts.write(entry, columns.entries.len() as u32);
+                columns.lasts.put(entry, columns.entries.len() as u32);
                 columns.entries.push(entry as u32);
             }
         }
@@ -179,7 +195,21 @@ impl Entries {
         }
     }
 
-    /// The same entries.
+    /// From here on a copy shares what is kept of these numbers, but for what is written later. Where there is no memory, it shares less.
+    pub fn freeze(&mut self)
+        ensures entries { self.new.entries ≡ self.old.entries }
+        ensures count { self.new.count ≡ self.old.count }
+    {
+        match &mut self.form {
+            Form::Same(_) => {}
+            Form::Apart(columns) => {
+                let _ = columns.lasts.freeze();
+                let _ = columns.entries.freeze();
+            }
+        }
+    }
+
+    /// The same entries. What is frozen is shared.
     pub fn copy(&self) -> Result<Entries, Memory>
         ensures entries { IfOk result (λ copy. copy.entries ≡ self.now.entries) }
         ensures count { IfOk result (λ copy. copy.count ≡ self.now.count) }
@@ -200,9 +230,8 @@ fn each_itself(alloc: Global, len: usize) -> Result<Table<u32>, Memory>
     requires { len ≤ 4294967295 }
     ensures { IfOk result (λ table. table.items ≡ range_with_len 0 len) }
 {
-    let mut table = Table::make(alloc);
+    let mut table = Table::with_room(alloc, len)?;
     for number in 0..len {
-        table.reserve()?;
         table.push(number as u32);
     }
     Ok(table)

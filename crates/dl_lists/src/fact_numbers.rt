@@ -1,14 +1,13 @@
 //! Literals by the numbers of their facts.
 
-ghost use Rattle.std.specs.Prelude.{◌≡◌, ℕ, ◌<◌, ◌≤◌, [], ◌∷◌, ◌++◌, true, false, Option, Some, None, is_some, List, OnOk, OnErr, IfOk, IfSome, IfNone, All, Contains, length, get_or, set, map};
+ghost use Rattle.std.specs.Prelude.{◌≡◌, ℕ, ◌<◌, ◌≤◌, [], ◌∷◌, ◌++◌, true, Option, Some, None, is_some, List, OnOk, OnErr, IfOk, IfSome, All, Contains, length, get_or, set, map};
 ghost use Rattle.dl_base.specs.Paths.{IsDistinct};
 ghost use Rattle.dl_rows.specs.There.{there, HasNumber, IsOnce};
-ghost use Rattle.dl_lists.specs.Facts.{KeepsFacts};
-ghost use Rattle.dl_lists.specs.KeptFacts.{ArePlaced, ArePlacedIn};
+ghost use Rattle.dl_lists.specs.KeptFacts.{ArePlaced, ArePlacedIn, OwnsPlace};
 
 use crate::slots::{EMPTY, Slots};
 use dl_base::Memory;
-use dl_rows::Table;
+use dl_pages::Table;
 use std::alloc::Global;
 use std::marker::Model;
 
@@ -20,6 +19,7 @@ pub struct FactNumbers {
     places: Option<Slots>,
     width: usize,
     live: usize,
+    room: Room,
 }
 
 impl Drop for FactNumbers {
@@ -29,8 +29,19 @@ impl Drop for FactNumbers {
             places: _,
             width: _,
             live: _,
+            room: _,
         } = self;
     }
+}
+
+/// What is prepared: all that it writes is owned, and has room.
+#[derive(Clone, Copy, Debug, PartialEq, Eq)]
+enum Room {
+    Nothing,
+    /// The fact of a literal comes.
+    ForFact(usize),
+    /// The fact of a literal goes from its number.
+    ForDrop { literal: usize, number: usize },
 }
 
 impl Model for FactNumbers {
@@ -48,14 +59,15 @@ impl FactNumbers {
     /// No facts. Takes no memory.
     pub fn make(alloc: Global) -> FactNumbers
         ensures items { result.items ≡ [] }
-        ensures width { result.width ≡ 0 }
-        ensures placed { result.placed ≡ false }
+        ensures ready { result.ready ≡ None }
+        ensures leaving { result.leaving ≡ None }
     {
         FactNumbers {
             facts: Slots::make(alloc),
             places: None,
             width: 0,
             live: 0,
+            room: Room::Nothing,
         }
     }
 
@@ -65,8 +77,8 @@ impl FactNumbers {
         requires within { All (λ q. q < names) literals.items }
         requires once { IsDistinct literals.items }
         ensures items { result.items ≡ map Some literals.items }
-        ensures width { result.width ≡ names }
-        ensures placed { result.placed ≡ false }
+        ensures ready { result.ready ≡ None }
+        ensures leaving { result.leaving ≡ None }
     {
         let live = literals.len();
         FactNumbers {
@@ -74,16 +86,20 @@ impl FactNumbers {
             places: None,
             width: names,
             live,
+            room: Room::Nothing,
         }
     }
 
-    /// Room for one more fact, whose literal has a number below a bound. `Memory` where there is none for it, or where these are more
-    /// numbers than 32 bits tell.
-    pub fn reserve(&mut self, names: usize) -> Result<(), Memory>
-        ensures kept { KeepsFacts self.old self.new }
-        ensures room { OnOk result (0 < self.new.spare) }
-        ensures wide { OnOk result (names ≤ self.new.width) }
+    /// Takes the memory for one more fact, whose literal has a number below a bound. `Memory` where there is none for it, or where these
+    /// are more numbers than 32 bits tell. What was prepared before is forgotten.
+    pub fn prepare(&mut self, literal: usize, names: usize) -> Result<(), Memory>
+        requires { literal < names }
+        ensures items { self.new.items ≡ self.old.items }
+        ensures ready { OnOk result (self.new.ready ≡ Some literal) }
+        ensures err { OnErr result (self.new.ready ≡ None) }
+        ensures leaving { self.new.leaving ≡ None }
     {
+        self.room = Room::Nothing;
         if names > EMPTY || self.facts.len() >= EMPTY {
             return Err(Memory);
         }
@@ -91,50 +107,70 @@ impl FactNumbers {
         let width = usize::max(self.width, names);
         widen_places(&mut self.places, width)?;
         self.width = width;
+        own_place(&mut self.places, literal)?;
+        self.room = Room::ForFact(literal);
         Ok(())
     }
 
-    /// A fact at the end, in room that is there.
+    /// The fact that is prepared goes last. Takes no memory.
     pub fn put(&mut self, literal: usize)
-        requires room { 0 < self.old.spare }
-        requires wide { literal < self.old.width }
+        requires ready { self.old.ready ≡ Some literal }
         requires new { ¬ Contains (there self.old.items) literal }
         ensures items { self.new.items ≡ self.old.items ++ Some literal ∷ [] }
-        ensures width { self.new.width ≡ self.old.width }
-        ensures placed { self.new.placed ≡ self.old.placed }
+        ensures ready { self.new.ready ≡ None }
+        ensures leaving { self.new.leaving ≡ None }
     {
         put_place(&mut self.places, literal, self.facts.len());
         self.facts.push(literal);
         self.live += 1;
+        self.room = Room::Nothing;
     }
 
-    /// The fact with a number goes, and leaves the number empty. Takes no memory.
-    pub fn drop_at(&mut self, number: usize)
-        requires { number < length self.old.items }
-        ensures items { self.new.items ≡ set self.old.items number None }
-        ensures width { self.new.width ≡ self.old.width }
-        ensures placed { self.new.placed ≡ self.old.placed }
+    /// Takes the memory for a fact to go. The first time this takes memory by the bound of the literals' numbers. What was prepared before
+    /// is forgotten.
+    pub fn prepare_drop(&mut self, literal: usize) -> Result<(), Memory>
+        requires { Contains (there self.old.items) literal }
+        ensures items { self.new.items ≡ self.old.items }
+        ensures leaving { OnOk result (self.new.leaving ≡ Some literal) }
+        ensures err { OnErr result (self.new.leaving ≡ None) }
+        ensures ready { self.new.ready ≡ None }
     {
-        match self.facts.at(number) {
-            None => return,
-            Some(literal) => {
+        self.room = Room::Nothing;
+        let number = find_place(&mut self.places, &self.facts, self.width, literal)?;
+        own_place(&mut self.places, literal)?;
+        self.facts.own(number)?;
+        self.room = Room::ForDrop { literal, number };
+        Ok(())
+    }
+
+    /// The fact that may go does, and leaves its number empty. Takes no memory.
+    pub fn drop_fact(&mut self, literal: usize)
+        requires { self.old.leaving ≡ Some literal }
+        ensures items { (k : ℕ) × HasNumber self.old.items literal k × (self.new.items ≡ set self.old.items k None) }
+        ensures ready { self.new.ready ≡ None }
+        ensures leaving { self.new.leaving ≡ None }
+    {
+        match self.room {
+            Room::ForDrop { literal, number } => {
                 drop_place(&mut self.places, literal);
                 self.facts.clear(number);
                 self.live -= 1;
+                self.room = Room::Nothing;
             }
+            _ => unreachable!(),
         }
     }
 
-    /// From here on facts are found by their literals. Takes memory by the bound of the literals' numbers, once.
-    pub fn prepare_places(&mut self) -> Result<(), Memory>
-        ensures kept { KeepsFacts self.old self.new }
-        ensures placed { OnOk result (self.new.placed ≡ true) }
+    /// From here on a copy shares these facts, but for what is written later. Where there is no memory, a copy costs more and nothing else
+    /// changes. What is prepared is forgotten.
+    pub fn freeze(&mut self)
+        ensures items { self.new.items ≡ self.old.items }
+        ensures ready { self.new.ready ≡ None }
+        ensures leaving { self.new.leaving ≡ None }
     {
-        if self.places.is_some() {
-            return Ok(());
-        }
-        self.places = Some(places_of(&self.facts, self.width)?);
-        Ok(())
+        self.room = Room::Nothing;
+        self.facts.freeze();
+        freeze_places(&mut self.places);
     }
 
     /// How many numbers there are, with those that are empty.
@@ -160,23 +196,11 @@ impl FactNumbers {
         self.facts.at(number)
     }
 
-    /// The number of the fact that is a literal; `None` exactly where none is.
-    pub fn place(&self, literal: usize) -> Option<usize>
-        requires { self.now.placed ≡ true }
-        ensures there { IfSome result (HasNumber self.now.items literal) }
-        ensures absent { IfNone result (¬ Contains (there self.now.items) literal) }
-    {
-        match &self.places {
-            None => unreachable!(),
-            Some(places) => places.at(literal),
-        }
-    }
-
-    /// The same facts with the same numbers, which are found as these are.
+    /// The same facts with the same numbers. Those that are frozen are shared. What is prepared is left out.
     pub fn copy(&self) -> Result<FactNumbers, Memory>
         ensures items { IfOk result (λ copy. copy.items ≡ self.now.items) }
-        ensures width { IfOk result (λ copy. copy.width ≡ self.now.width) }
-        ensures placed { IfOk result (λ copy. copy.placed ≡ self.now.placed) }
+        ensures ready { IfOk result (λ copy. copy.ready ≡ None) }
+        ensures leaving { IfOk result (λ copy. copy.leaving ≡ None) }
     {
         let facts = self.facts.copy()?;
         let places = copied_places(&self.places)?;
@@ -185,6 +209,7 @@ impl FactNumbers {
             places,
             width: self.width,
             live: self.live,
+            room: Room::Nothing,
         })
     }
 }
@@ -192,7 +217,6 @@ impl FactNumbers {
 /// Empty places at the end, until there are so many.
 fn widen_places(places: &mut Option<Slots>, width: usize) -> Result<(), Memory>
     requires { IfSome places.old (λ p. length p.items ≤ width) }
-    ensures same { is_some places.new ≡ is_some places.old }
     ensures placed { OnOk result ((facts : List (Option ℕ)) (w : ℕ) → ArePlacedIn facts w places.old → ArePlacedIn facts width places.new) }
     ensures kept { OnErr result ((facts : List (Option ℕ)) (w : ℕ) → ArePlacedIn facts w places.old → ArePlacedIn facts w places.new) }
 {
@@ -205,12 +229,26 @@ fn widen_places(places: &mut Option<Slots>, width: usize) -> Result<(), Memory>
     }
 }
 
+/// The place of a literal may be written from now on.
+fn own_place(places: &mut Option<Slots>, literal: usize) -> Result<(), Memory>
+    requires { IfSome places.old (λ p. literal < length p.items) }
+    ensures placed { (facts : List (Option ℕ)) (w : ℕ) → ArePlacedIn facts w places.old → ArePlacedIn facts w places.new }
+    ensures owned { OnOk result (OwnsPlace places.new literal) }
+{
+    match places {
+        None => Ok(()),
+        Some(places) => match places.own(literal) {
+            Ok(()) => Ok(()),
+            Err(memory) => Err(memory),
+        },
+    }
+}
+
 /// The place of a fact that comes last.
 fn put_place(places: &mut Option<Slots>, literal: usize, number: usize)
-    requires within { IfSome places.old (λ p. literal < length p.items) }
+    requires owned { OwnsPlace places.old literal }
     requires few { number < 4294967295 }
-    ensures same { is_some places.new ≡ is_some places.old }
-    ensures placed { (facts : List (Option ℕ)) (w : ℕ) → length facts ≡ number → literal < w → (¬ Contains (there facts) literal)
+    ensures { (facts : List (Option ℕ)) (w : ℕ) → length facts ≡ number → literal < w → (¬ Contains (there facts) literal)
         → ArePlacedIn facts w places.old → ArePlacedIn (facts ++ Some literal ∷ []) w places.new }
 {
     match places {
@@ -221,14 +259,23 @@ fn put_place(places: &mut Option<Slots>, literal: usize, number: usize)
 
 /// The place of a fact that goes becomes empty.
 fn drop_place(places: &mut Option<Slots>, literal: usize)
-    requires { IfSome places.old (λ p. literal < length p.items) }
-    ensures same { is_some places.new ≡ is_some places.old }
-    ensures placed { (facts : List (Option ℕ)) (w k : ℕ) → literal < w → IsOnce facts → HasNumber facts literal k
+    requires { OwnsPlace places.old literal }
+    ensures { (facts : List (Option ℕ)) (w k : ℕ) → literal < w → IsOnce facts → HasNumber facts literal k
         → ArePlacedIn facts w places.old → ArePlacedIn (set facts k None) w places.new }
 {
     match places {
         None => {}
         Some(places) => places.clear(literal),
+    }
+}
+
+/// From here on a copy shares the places, if there are any.
+fn freeze_places(places: &mut Option<Slots>)
+    ensures { (facts : List (Option ℕ)) (w : ℕ) → ArePlacedIn facts w places.old → ArePlacedIn facts w places.new }
+{
+    match places {
+        None => {}
+        Some(places) => places.freeze(),
     }
 }
 
@@ -240,6 +287,43 @@ fn copied_places(places: &Option<Slots>) -> Result<Option<Slots>, Memory>
     match places {
         None => Ok(None),
         Some(places) => Ok(Some(places.copy()?)),
+    }
+}
+
+/// The number of a fact that is there. From here on there are places.
+fn find_place(
+    places: &mut Option<Slots>,
+    facts: &Slots,
+    width: usize,
+    literal: usize,
+) -> Result<usize, Memory>
+    requires within { (q n : ℕ) → HasNumber facts.now.items q n → q < width }
+    requires once { IsOnce facts.now.items }
+    requires few { length facts.now.items ≤ 4294967295 }
+    requires placed { ArePlacedIn facts.now.items width places.old }
+    requires there { Contains (there facts.now.items) literal }
+    ensures placed { ArePlacedIn facts.now.items width places.new }
+    ensures number { IfOk result (HasNumber facts.now.items literal) }
+{
+    match places {
+        Some(places) => Ok(number_at(places, literal)),
+        None => {
+            let made = places_of(facts, width)?;
+            let number = number_at(&made, literal);
+            *places = Some(made);
+            Ok(number)
+        }
+    }
+}
+
+/// The number at a place that is not empty.
+fn number_at(places: &Slots, literal: usize) -> usize
+    requires { is_some (get_or places.now.items literal None) ≡ true }
+    ensures { get_or places.now.items literal None ≡ Some result }
+{
+    match places.at(literal) {
+        None => unreachable!(),
+        Some(number) => number,
     }
 }
 

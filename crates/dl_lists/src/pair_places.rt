@@ -1,15 +1,17 @@
 //! Where the pairs of a rule are.
 
-ghost use Rattle.std.specs.Prelude.{◌≡◌, ℕ, ◌+◌, ◌<◌, ◌≤◌, List, [], ◌∷◌, ◌++◌, Option, Some, None, false, not, OnOk, IfOk, IfSome, IfNone, Contains, length, get_or, map, set};
+ghost use Rattle.std.specs.Prelude.{◌≡◌, ℕ, ◌+◌, ◌<◌, ◌≤◌, List, [], ◌∷◌, ◌++◌, Option, Some, None, true, false, not, OnOk, IfOk, IfSome, IfNone, Contains, length, get_or, map, set};
 ghost use Rattle.dl_sup.specs.declared.link.Link.{Link};
-ghost use Rattle.dl_rows.specs.Tables.{list_at, KeepsLists};
+ghost use Rattle.dl_pages.specs.Paged.{Owns, KeepsOwned};
+ghost use Rattle.dl_rows.specs.Tables.{list_at, IsOpen, KeepsLists};
 ghost use Rattle.dl_sup.specs.Links.{names_item};
 ghost use Rattle.dl_rows.specs.There.{there, HasNumber, kept_if};
-ghost use Rattle.dl_lists.specs.KeptPairs.{ArePlaced, HasRowRoom, pairs_in};
+ghost use Rattle.dl_lists.specs.KeptPairs.{ArePlaced, HasRowRoom, CanClear, CanClearRow, other_rule, pairs_in};
 
 use crate::pair_slot::PairSlot;
 use dl_base::Memory;
-use dl_rows::{Lists, RowTable, Table};
+use dl_pages::Table;
+use dl_rows::{Lists, RowTable};
 use dl_sup::Link;
 use std::alloc::Global;
 
@@ -62,8 +64,36 @@ impl PairPlaces {
         self.lowers.push(pair.lower, number);
     }
 
+    /// The lists of the rules of a pair may be written from now on.
+    pub fn open_pair(&mut self, pair: Link) -> Result<(), Memory>
+        ensures uppers { KeepsLists self.old.uppers self.new.uppers }
+        ensures lowers { KeepsLists self.old.lowers self.new.lowers }
+        ensures upper { OnOk result (IsOpen self.new.uppers pair.upper) }
+        ensures lower { OnOk result (IsOpen self.new.lowers pair.lower) }
+    {
+        self.uppers.open(pair.upper)?;
+        self.lowers.open(pair.lower)?;
+        Ok(())
+    }
+
+    /// What all pairs leave that name a rule may be written from now on. Takes time by these pairs.
+    pub fn open_rule(&mut self, pairs: &mut Table<PairSlot>, rule: usize) -> Result<(), Memory>
+        ensures items { pairs.new.items ≡ pairs.old.items }
+        ensures placed { (items : List (Option Link)) → ArePlaced items self.old.uppers self.old.lowers
+            → ArePlaced items self.new.uppers self.new.lowers }
+        ensures clear { OnOk result (CanClear pairs.new self.new.uppers self.new.lowers rule) }
+    {
+        self.uppers.open(rule)?;
+        self.lowers.open(rule)?;
+        open_row(pairs, &mut self.lowers, self.uppers.row(rule), rule)?;
+        open_row(pairs, &mut self.uppers, self.lowers.row(rule), rule)?;
+        Ok(())
+    }
+
     /// The number of a pair of these rules goes. Takes time by how many pairs each of the two is in.
     pub fn remove(&mut self, pair: Link, number: u32)
+        requires upper { IsOpen self.old.uppers pair.upper }
+        requires lower { IsOpen self.old.lowers pair.lower }
         ensures { (items : List (Option Link)) → ArePlaced items self.old.uppers self.old.lowers
             → ArePlaced (set items number None) self.new.uppers self.new.lowers }
     {
@@ -76,6 +106,7 @@ impl PairPlaces {
     pub fn drop_rule(&mut self, pairs: &mut Table<PairSlot>, rule: usize) -> usize
         requires placed { ArePlaced (pairs_in pairs.old.items) self.old.uppers self.old.lowers }
         requires few { length pairs.old.items ≤ 4294967295 }
+        requires clear { CanClear pairs.old self.old.uppers self.old.lowers rule }
         ensures pairs { pairs_in pairs.new.items ≡ map (kept_if (λ p. not (names_item rule p))) (pairs_in pairs.old.items) }
         ensures places { ArePlaced (pairs_in pairs.new.items) self.new.uppers self.new.lowers }
         ensures count { result + length (there (pairs_in pairs.new.items)) ≡ length (there (pairs_in pairs.old.items)) }
@@ -87,7 +118,16 @@ impl PairPlaces {
         below + above
     }
 
-    /// Where the same pairs are.
+    /// From here on a copy shares these lists, but for what is written later. Where there is no memory, it shares less.
+    pub fn freeze(&mut self)
+        ensures uppers { self.new.uppers.lists ≡ self.old.uppers.lists }
+        ensures lowers { self.new.lowers.lists ≡ self.old.lowers.lists }
+    {
+        let _ = self.uppers.freeze();
+        let _ = self.lowers.freeze();
+    }
+
+    /// Where the same pairs are. What is frozen is shared.
     pub fn copy(&self) -> Result<PairPlaces, Memory>
         ensures { IfOk result (λ copy. (items : List (Option Link)) → ArePlaced items self.now.uppers self.now.lowers
             → ArePlaced items copy.uppers copy.lowers) }
@@ -124,7 +164,11 @@ pub(crate) fn find_in(pairs: &Table<PairSlot>, row: &[u32], pair: Link) -> Optio
 
 /// The pairs of a row that name a rule go, and their numbers out of the rows of the other rules; says how many.
 fn drop_row(pairs: &mut Table<PairSlot>, others: &mut RowTable, row: &[u32], rule: usize) -> usize
-    requires { length pairs.old.items ≤ 4294967295 }
+    requires few { length pairs.old.items ≤ 4294967295 }
+    requires clear { CanClearRow pairs.old others.old row.now rule }
+    ensures owned { KeepsOwned pairs.old pairs.new }
+    ensures opened { (s : ℕ) → IsOpen others.old s → IsOpen others.new s }
+    ensures shorter { (n s : ℕ) → Contains (list_at others.new s) n → Contains (list_at others.old s) n }
     ensures len { length pairs.new.items ≡ length pairs.old.items }
     ensures same { map (kept_if (λ p. not (names_item rule p))) (pairs_in pairs.new.items) ≡ map (kept_if (λ p. not (names_item rule p))) (pairs_in pairs.old.items) }
     ensures fewer { (l : Link) (n : ℕ) → HasNumber (pairs_in pairs.new.items) l n → HasNumber (pairs_in pairs.old.items) l n }
@@ -137,7 +181,7 @@ fn drop_row(pairs: &mut Table<PairSlot>, others: &mut RowTable, row: &[u32], rul
         if let Some(pair) = pair_at(pairs, *number as usize) {
             if pair.upper == rule || pair.lower == rule {
                 others.remove(other_of(pair, rule), *number);
-                pairs.write(*number as usize, PairSlot::empty());
+                pairs.put(*number as usize, PairSlot::empty());
                 count += 1;
             }
         }
@@ -145,8 +189,56 @@ fn drop_row(pairs: &mut Table<PairSlot>, others: &mut RowTable, row: &[u32], rul
     count
 }
 
+/// The numbers of the pairs of a row that name a rule may be written from now on, and the rows of the other rules.
+fn open_row(
+    pairs: &mut Table<PairSlot>,
+    others: &mut RowTable,
+    row: &[u32],
+    rule: usize,
+) -> Result<(), Memory>
+    ensures items { pairs.new.items ≡ pairs.old.items }
+    ensures owned { KeepsOwned pairs.old pairs.new }
+    ensures kept { KeepsLists others.old others.new }
+    ensures same { length others.new.lists ≡ length others.old.lists }
+    ensures clear { OnOk result (CanClearRow pairs.new others.new row.now rule) }
+{
+    for number in row {
+        open_number(pairs, others, *number as usize, rule)?;
+    }
+    Ok(())
+}
+
+/// The number of a pair may be written from now on, if the pair names a rule, and the row of the other rule.
+fn open_number(
+    pairs: &mut Table<PairSlot>,
+    others: &mut RowTable,
+    number: usize,
+    rule: usize,
+) -> Result<(), Memory>
+    ensures items { pairs.new.items ≡ pairs.old.items }
+    ensures owned { KeepsOwned pairs.old pairs.new }
+    ensures kept { KeepsLists others.old others.new }
+    ensures same { length others.new.lists ≡ length others.old.lists }
+    ensures clear { OnOk result ((l : Link) → HasNumber (pairs_in pairs.new.items) l number → names_item rule l ≡ true
+        → Owns pairs.new number × IsOpen others.new (other_rule rule l)) }
+{
+    match pair_at(pairs, number) {
+        None => Ok(()),
+        Some(pair) => {
+            if pair.upper != rule && pair.lower != rule {
+                return Ok(());
+            }
+            others.open(other_of(pair, rule))?;
+            pairs.own(number)?;
+            Ok(())
+        }
+    }
+}
+
 /// The rule of a pair that is not this one.
-fn other_of(pair: Link, rule: usize) -> usize {
+fn other_of(pair: Link, rule: usize) -> usize
+    ensures { result ≡ other_rule rule pair }
+{
     if pair.upper == rule {
         pair.lower
     } else {

@@ -108,6 +108,7 @@ impl RuleLabels {
         match self.names.find(label) {
             Some(entry) => {
                 self.entries.part(self.alloc)?;
+                self.entries.prepare_again(entry)?;
                 self.entries.reserve()?;
                 self.ready = Ready::Again(entry);
             }
@@ -145,12 +146,13 @@ impl RuleLabels {
         self.ready = Ready::Nothing;
     }
 
-    /// From here on a copy shares most of the labels, and copies those that come later. Where there is no memory, nothing changes.
+    /// From here on a copy shares most of the labels, and copies those that come later. Where there is no memory, it shares less.
     pub fn freeze(&mut self)
         requires { self.old.ready ≡ None }
         ensures { self.new ≡ self.old }
     {
         self.names.freeze();
+        self.entries.freeze();
     }
 
     /// How many numbers there are.

@@ -1,16 +1,18 @@
 //! Numbers at places, some of which are empty.
 
-ghost use Rattle.std.specs.Prelude.{◌≡◌, ℕ, ◌<◌, ◌≤◌, [], ◌∷◌, ◌++◌, None, Some, OnOk, OnErr, IfOk, All, length, get_or, set, map};
+ghost use Rattle.std.specs.Prelude.{◌≡◌, ℕ, ◌<◌, ◌≤◌, [], ◌∷◌, ◌++◌, true, None, Some, OnOk, OnErr, IfOk, All, length, get_or, set, map};
+ghost use Rattle.dl_pages.specs.Paged.{Owns, KeepsOwned};
 
 use dl_base::Memory;
-use dl_rows::Table;
+use dl_pages::Table;
 use std::alloc::Global;
 use std::marker::Model;
 
 /// What stands at an empty place. Numbers and how many there are stay below it.
 pub(crate) const EMPTY: usize = 4294967295;
 
-/// Numbers at places, some of which are empty, in 32 bits each.
+/// Numbers at places, some of which are empty, in 32 bits each. What is frozen is shared with each copy, and a place is written only
+/// while it is owned.
 pub(crate) struct Slots {
     numbers: Table<u32>,
 }
@@ -23,10 +25,10 @@ impl Drop for Slots {
 
 impl Model for Slots {
     ghost use Rattle.std.specs.Prelude.{ℕ, Option};
-    ghost use Rattle.dl_rows.specs.Listed.{Listed};
+    ghost use Rattle.dl_pages.specs.Paged.{PagedItems};
     ghost use Rattle.dl_lists.specs.KeptSlots.{slots_of};
 
-    ghost Value = { Listed (Option ℕ) };
+    ghost Value = { PagedItems (Option ℕ) };
 
     ghost view = { λ s. slots_of s.numbers };
 }
@@ -49,12 +51,24 @@ impl Slots {
         Slots { numbers }
     }
 
-    /// Room for one more number.
+    /// Room for one more number. `Memory` where there is none: the numbers stay, and what is owned.
     pub fn reserve(&mut self) -> Result<(), Memory>
         ensures items { self.new.items ≡ self.old.items }
+        ensures owned { KeepsOwned self.old self.new }
         ensures room { OnOk result (0 < self.new.spare) }
     {
-        self.numbers.reserve()
+        self.numbers.reserve(1)
+    }
+
+    /// The place may be written from now on. `Memory` where there is none for that: the numbers stay, and what is owned.
+    pub fn own(&mut self, at: usize) -> Result<(), Memory>
+        requires { at < length self.old.items }
+        ensures items { self.new.items ≡ self.old.items }
+        ensures owned { KeepsOwned self.old self.new }
+        ensures here { OnOk result (Owns self.new at) }
+        ensures spare { OnOk result (self.old.spare ≤ self.new.spare) }
+    {
+        self.numbers.own(at)
     }
 
     /// A number at the end, in room that is there.
@@ -66,32 +80,43 @@ impl Slots {
         self.numbers.push(number as u32);
     }
 
-    /// A number at a place.
+    /// A number at a place that is owned.
     pub fn write(&mut self, at: usize, number: usize)
-        requires at { at < length self.old.items }
+        requires owned { Owns self.old at }
         requires few { number < 4294967295 }
-        ensures { self.new.items ≡ set self.old.items at (Some number) }
+        ensures items { self.new.items ≡ set self.old.items at (Some number) }
+        ensures owned { self.new.owned ≡ self.old.owned }
     {
-        self.numbers.write(at, number as u32);
+        self.numbers.put(at, number as u32);
     }
 
-    /// A place becomes empty.
+    /// A place that is owned becomes empty.
     pub fn clear(&mut self, at: usize)
-        requires { at < length self.old.items }
-        ensures { self.new.items ≡ set self.old.items at None }
+        requires { Owns self.old at }
+        ensures items { self.new.items ≡ set self.old.items at None }
+        ensures owned { self.new.owned ≡ self.old.owned }
     {
-        self.numbers.write(at, u32::MAX);
+        self.numbers.put(at, u32::MAX);
     }
 
-    /// Empty places at the end, until there are so many. `Memory` where there is none for them leaves the places as they were.
+    /// Empty places at the end, until there are so many, and these are owned. `Memory` where there is none for them leaves the places as
+    /// they were.
     pub fn widen(&mut self, len: usize) -> Result<(), Memory>
         requires { length self.old.items ≤ len }
         ensures len { OnOk result (length self.new.items ≡ len) }
         ensures kept { OnOk result ((n : ℕ) → get_or self.new.items n None ≡ get_or self.old.items n None) }
+        ensures fresh { OnOk result ((n : ℕ) → length self.old.items ≤ n → n < len → Owns self.new n) }
         ensures err { OnErr result (self.new.items ≡ self.old.items) }
     {
         self.numbers.widen(len, u32::MAX)?;
         Ok(())
+    }
+
+    /// From here on a copy shares these places, but for what is written later. Where there is no memory, it shares less.
+    pub fn freeze(&mut self)
+        ensures { self.new.items ≡ self.old.items }
+    {
+        let _ = self.numbers.freeze();
     }
 
     /// How many places there are.
@@ -118,7 +143,7 @@ impl Slots {
         self.numbers.alloc()
     }
 
-    /// The same numbers at the same places.
+    /// The same numbers at the same places. What is frozen is shared.
     pub fn copy(&self) -> Result<Slots, Memory>
         ensures { IfOk result (λ copy. copy.items ≡ self.now.items) }
     {

@@ -21,6 +21,7 @@ use Rattle.dl_theory.proofs.WellFormed.{edit_keeps}
 use Rattle.dl_rows.specs.There.{there, HasNumber}
 use Rattle.dl_rows.specs.Tables.{drop_item, list_of}
 use Rattle.dl_rows.proofs.There.{has_there, there_has, push_has, drop_has, distinct_once, there_map, there_push, there_drop}
+use Rattle.dl_lists.specs.Pairs.{PairLists, no_pairs}
 use Rattle.dl_rules.specs.Lines.{Line, IndexLists, KeepsRules, IsThere, line_at}
 use Rattle.dl_graph.specs.Above.{lower_step, upper_step}
 use Rattle.dl_graph.specs.Numbers.{NetLists, of_rule, lowers_row, uppers_row}
@@ -354,36 +355,38 @@ module _ (old new : Tables) (k : AreKept old) (l : Link) (p : Pair) (is : IsLink
 -- ---- preparing keeps the tables
 
 -- the order, and what is prepared, are all that changes
-keeps_pairs : (old : Tables) (ready : Option Link) (x : IndexLists) (order : Option (List Link)) → AreKept old → KeepsRules old.index x → HasOrder order old.pairs.items ready
-    → KeepsTables [] old (record old { pairs = record old.pairs { ready = ready }; index = x; order = order })
-keeps_pairs old ready x order k kept h =
-    keeps_all old (record old { pairs = record old.pairs { ready = ready }; index = x; order = order }) k
-    (record { labels = refl; facts = refl; pairs = refl; lines = kept.lines; lowers = kept.lowers; uppers = kept.uppers }) refl refl h
+pub keeps_pairs : (old : Tables) (pairs : PairLists) (x : IndexLists) (order : Option (List Link)) → AreKept old → pairs.items ≡ old.pairs.items
+    → KeepsRules old.index x → HasOrder order pairs.items pairs.ready → KeepsTables [] old (record old { pairs = pairs; index = x; order = order })
+keeps_pairs old pairs x order k same kept h =
+    keeps_all old (record old { pairs = pairs; index = x; order = order }) k
+    (record { labels = refl; facts = refl; pairs = same; lines = kept.lines; lowers = kept.lowers; uppers = kept.uppers }) refl refl h
 
 pub keeps_rules : (x : IndexLists) → KeepsRules x x
 keeps_rules x = record { lines = refl; lowers = refl; uppers = refl; wider = omega arith }
 
 -- a pair for which there is no room is forgotten
-pub pair_forgotten : (old mid new : Tables) (ready : Option Link) (x : IndexLists) (order : Option (List Link)) → AreKept old
-    → mid ≡ record old { pairs = record old.pairs { ready = ready }; index = x; order = order } → KeepsRules old.index x
-    → new ≡ record mid { pairs = record mid.pairs { ready = None }; order = new.order } → HasOrder new.order mid.pairs.items None → KeepsTables [] old new
-pair_forgotten old mid new ready x before k first kept then order =
-    subst (KeepsTables [] old) (sym (then ∙ ap (λ (t : Tables). record t { pairs = record t.pairs { ready = None }; order = new.order }) first))
-    (keeps_pairs old None x new.order k kept
+pub pair_forgotten : (old mid new : Tables) (pairs : PairLists) (x : IndexLists) (order : Option (List Link)) → AreKept old → pairs.items ≡ old.pairs.items
+    → mid ≡ record old { pairs = pairs; index = x; order = order } → KeepsRules old.index x
+    → new ≡ record mid { pairs = record no_pairs { items = mid.pairs.items }; order = new.order } → HasOrder new.order mid.pairs.items None → KeepsTables [] old new
+pair_forgotten old mid new pairs x before k same first kept then order =
+    subst (KeepsTables [] old) (sym (then ∙ ap (λ (t : Tables). record t { pairs = record no_pairs { items = t.pairs.items }; order = new.order }) first))
+    (keeps_pairs old (record no_pairs { items = pairs.items }) x new.order k same kept
     (subst (λ (ps : List (Option Link)). HasOrder new.order ps None) (ap (λ (t : Tables). t.pairs.items) first) order))
 
 module _ (old mid : Tables) (first : mid ≡ record old { order = mid.order }) where
   pub room_kept : (x : IndexLists) → KeepsRules mid.index x → KeepsRules old.index x
   room_kept x kept = subst (λ (y : IndexLists). KeepsRules y x) (ap (λ (t : Tables). t.index) first) kept
 
-  pub room_frame : (new : Tables) → new ≡ record mid { pairs = record mid.pairs { ready = new.pairs.ready }; index = new.index }
-      → new ≡ record old { pairs = record old.pairs { ready = new.pairs.ready }; index = new.index; order = mid.order }
-  room_frame new then = then ∙ ap (λ (t : Tables). record t { pairs = record t.pairs { ready = new.pairs.ready }; index = new.index; order = mid.order }) first
+  pub room_frame : (new : Tables) → new ≡ record mid { pairs = record no_pairs { items = mid.pairs.items; ready = new.pairs.ready }; index = new.index }
+      → new ≡ record old { pairs = record no_pairs { items = old.pairs.items; ready = new.pairs.ready }; index = new.index; order = mid.order }
+  room_frame new then =
+      then ∙ ap (λ (t : Tables). record t { pairs = record no_pairs { items = t.pairs.items; ready = new.pairs.ready }; index = new.index; order = mid.order }) first
 
   -- a pair for which there is room is prepared
   pub pair_prepared : (new : Tables) (l : Link) → AreKept old → HasOrder mid.order old.pairs.items (Some l)
-      → new ≡ record mid { pairs = record mid.pairs { ready = new.pairs.ready }; index = new.index } → KeepsRules mid.index new.index → new.pairs.ready ≡ Some l
+      → new ≡ record mid { pairs = record no_pairs { items = mid.pairs.items; ready = new.pairs.ready }; index = new.index } → KeepsRules mid.index new.index
+      → new.pairs.ready ≡ Some l
       → KeepsTables [] old new
   pair_prepared new l k order then kept ready =
       subst (KeepsTables [] old) (sym (room_frame new then))
-      (keeps_pairs old new.pairs.ready new.index mid.order k (room_kept new.index kept) (subst (HasOrder mid.order old.pairs.items) (sym ready) order))
+      (keeps_pairs old (record no_pairs { items = old.pairs.items; ready = new.pairs.ready }) new.index mid.order k refl (room_kept new.index kept) (subst (HasOrder mid.order old.pairs.items) (sym ready) order))

@@ -1,5 +1,5 @@
 -- What the tables of a net hold, what an edit of them keeps and changes, and the room for one that is prepared.
-use Rattle.std.specs.Prelude.{◌≡◌, ◌⊎◌, ◌<◌, ◌==◌, Bool, true, not, Option, None, Some, List, [], ◌∷◌, ◌++◌, length, map, Contains}
+use Rattle.std.specs.Prelude.{◌≡◌, ◌⊎◌, ◌<◌, ◌==◌, ℕ, Bool, true, not, Option, None, Some, List, [], ◌∷◌, ◌++◌, length, map, get_or, Contains}
 use Rattle.std.specs.Str.{bytes_eq}
 use Rattle.dl_lit.specs.declared.literal.Literal.{Literal}
 use Rattle.dl_sup.specs.declared.link.Link.{Link}
@@ -16,7 +16,9 @@ use Rattle.dl_names.specs.Paired.{IsNear, Grows, flip, number_in}
 use Rattle.dl_graph.specs.Numbers.{NetLists}
 use Rattle.dl_graph.specs.Named.{HasLiterals, line_in}
 use Rattle.dl_graph.specs.Tables.{TableLists, AreTables, net_of, rules_of, theory_of}
+use Rattle.dl_pages.specs.Paged.{Owns}
 use Rattle.dl_net.specs.declared.tables.Tables.{Tables}
+use Rattle.dl_net.specs.PairEdits.{IsLinkOf}
 
 -- ---- what tables hold
 
@@ -68,8 +70,8 @@ pub record HasRuleRoom (t : Tables) (r : Rule) : Type 0 where
 pub record HasFactRoom (t : Tables) (q : Literal) : Type 0 where
   pub named : Contains t.names.literals q
   pub marked : number_in t.names.literals q < length t.marks.items
-  pub room : 0 < t.facts.spare
-  pub wide : number_in t.names.literals q < t.facts.width
+  pub owned : Owns t.marks (number_in t.names.literals q)
+  pub ready : t.facts.ready ≡ Some (number_in t.names.literals q)
   pub settled : AreSettled t
 
 -- room for a pair of two rules; where their heads meet, the lower one can go below the upper one
@@ -82,24 +84,38 @@ pub record HasPairRoom (t : Tables) (p : Pair) : Type 0 where
   pub below : meets t.index link ≡ true → t.index.linking ≡ Some (record { upper = link.upper; lower = link.lower })
   pub label : t.labels.ready ≡ None
 
--- pairs are found by their rules
-pub record FindsPairs (t : Tables) : Type 0 where
-  pub placed : t.pairs.placed ≡ true
+-- a rule can go with its pairs
+pub record HasRuleDropRoom (t : Tables) (name : List ℕ) : Type 0 where
+  pub number : ℕ
+  pub there : IsThere t.index.lines number
+  pub label : get_or t.labels.labels number [] ≡ name
+  pub taking : t.index.taking ≡ Some number
+  pub clearing : t.pairs.clearing ≡ Some number
   pub settled : AreSettled t
 
--- facts are found by their literals
-pub record FindsFacts (t : Tables) : Type 0 where
-  pub placed : t.facts.placed ≡ true
+-- a fact can go
+pub record HasFactDropRoom (t : Tables) (q : Literal) : Type 0 where
+  pub named : Contains t.names.literals q
+  pub owned : Owns t.marks (number_in t.names.literals q)
+  pub leaving : t.facts.leaving ≡ Some (number_in t.names.literals q)
   pub settled : AreSettled t
 
--- room for what an edit adds; a removal takes none, but what goes has to be found
+-- the pair of two rules can go
+pub record HasPairDropRoom (t : Tables) (p : Pair) : Type 0 where
+  pub link : Link
+  pub leaving : t.pairs.leaving ≡ Some link
+  pub unlinking : t.index.unlinking ≡ Some (record { upper = link.upper; lower = link.lower })
+  pub is : IsLinkOf t link p
+  pub settled : AreSettled t
+
+-- room for what an edit adds, and for all that changes where something goes
 abbrev pub HasEditRoom : Tables → Edit → Type 0
 HasEditRoom t (AddRule r) = HasRuleRoom t r
-HasEditRoom t (DropRule l) = FindsPairs t
+HasEditRoom t (DropRule l) = HasRuleDropRoom t l
 HasEditRoom t (AddFact q) = HasFactRoom t q
-HasEditRoom t (DropFact q) = FindsFacts t
+HasEditRoom t (DropFact q) = HasFactDropRoom t q
 HasEditRoom t (AddPair p) = HasPairRoom t p
-HasEditRoom t (DropPair p) = FindsPairs t
+HasEditRoom t (DropPair p) = HasPairDropRoom t p
 
 -- an edit that is prepared is accepted, and has its room
 abbrev pub HasPending : Tables → Option Edit → Type 0

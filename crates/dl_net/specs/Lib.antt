@@ -1,11 +1,11 @@
 pub mod Anew
 pub mod Edited
+pub mod PairEdits
 pub mod Kept
 pub mod Linking
 pub mod Loading
 pub mod KeptNumbered
 pub mod KeptNet
-pub mod PairEdits
 pub use Rattle.dl_graph.specs.Numbers
 pub use Rattle.dl_graph.specs.Named
 pub use Rattle.dl_graph.specs.Region

@@ -18,7 +18,7 @@ use dl_base::Memory;
 use dl_graph::Graph;
 use dl_lists::{FactNumbers, RuleLabels};
 use dl_lit::{Name, NameSet, name_set};
-use dl_rows::Table;
+use dl_pages::Table;
 use dl_rules::{Index, Lines};
 use dl_theory::{Pair, RulePairs, insert_label};
 use std::alloc::Global;
@@ -104,7 +104,7 @@ fn facts_in_order(alloc: Global, facts: &FactNumbers) -> Result<Table<u32>, Memo
     let mut order = Table::make(alloc);
     for number in 0..facts.len() {
         if let Some(literal) = facts.at(number) {
-            order.reserve()?;
+            order.reserve(1)?;
             order.push(literal as u32);
         }
     }

@@ -20,11 +20,11 @@ impl Tables {
     {
         match edit {
             Edit::AddRule(rule) => self.prepare_rule(rule),
-            Edit::DropRule(label) => self.find_dropped_rule(label),
+            Edit::DropRule(label) => self.prepare_rule_drop(label),
             Edit::AddFact(fact) => self.prepare_fact(fact),
-            Edit::DropFact(fact) => self.find_dropped_fact(fact),
+            Edit::DropFact(fact) => self.prepare_fact_drop(fact),
             Edit::AddPair(pair) => self.prepare_pair(pair),
-            Edit::DropPair(pair) => self.find_dropped_pair(pair),
+            Edit::DropPair(pair) => self.prepare_pair_drop(pair),
         }
     }
 

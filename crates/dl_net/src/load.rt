@@ -11,6 +11,7 @@ ghost use Rattle.dl_graph.specs.Above.{lower_step, upper_step};
 ghost use Rattle.dl_graph.specs.Named.{HasLiterals, line_in};
 ghost use Rattle.dl_graph.specs.Numbers.{NetLists, of_rule, lowers_row, uppers_row};
 ghost use Rattle.dl_graph.specs.Tables.{AreTables};
+ghost use Rattle.dl_lists.specs.Pairs.{no_pairs};
 ghost use Rattle.dl_net.specs.Kept.{AreKept, AreSettled, net_in, theory_in};
 ghost use Rattle.dl_net.specs.Linking.{HaveRules, AreRules, ArePairs, IsPairOf};
 ghost use Rattle.dl_net.specs.Loading.{LoadedLists, IsLoading, tables_of};
@@ -208,7 +209,7 @@ pub(crate) fn meet(index: &Index, names: &PairedNames, upper: usize, lower: usiz
 
 /// The same pairs under numbers of their own.
 pub(crate) fn pair_numbers(alloc: Global, pairs: &RulePairs) -> Result<PairNumbers, Memory>
-    ensures { IfOk result (λ all. all ≡ record { items = map Some pairs.now; ready = None; placed = false }) }
+    ensures { IfOk result (λ all. all ≡ record no_pairs { items = map Some pairs.now }) }
 {
     let mut all = PairNumbers::make(alloc);
     for at in 0..pairs.len() {

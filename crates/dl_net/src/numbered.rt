@@ -13,7 +13,8 @@ use crate::number::number_fact;
 use dl_base::Memory;
 use dl_lit::{Literal, Name, NameSet, name_set};
 use dl_names::PairedNames;
-use dl_rows::{Region, Table};
+use dl_pages::Table;
+use dl_rows::Region;
 use dl_rules::Lines;
 use dl_theory::{
     Body, EditRefusal, EditStop, LIMIT, Loading, Pair, PairsStop, Rule, RulePairs, Theory,
@@ -120,9 +121,10 @@ impl NumberedTheory {
         if is_marked(&self.facts, number as usize) {
             return Err(EditStop::Refused(EditRefusal::FactThere));
         }
-        self.order.reserve()?;
+        self.order.reserve(1)?;
+        self.facts.own(number as usize)?;
         self.order.push(number);
-        self.facts.write(number as usize, true);
+        let _off = self.facts.put(number as usize, true);
         Ok(())
     }
 

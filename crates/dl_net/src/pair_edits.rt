@@ -11,7 +11,8 @@ ghost use Rattle.dl_theory.specs.declared.edit.EditRefusal.TheVariants.{NoLabel}
 ghost use Rattle.dl_theory.specs.Edits.{IsAccepted, IsAnswered, IsMissing, IsStopped};
 ghost use Rattle.dl_theory.specs.Lists.{labels};
 ghost use Rattle.dl_theory.specs.Pairs.{label_at, named};
-ghost use Rattle.dl_net.specs.Kept.{AreKept, AreSettled, FindsPairs, HasOrder, HasPairRoom, KeepsTables, MakesEdit, lists_of, meets, theory_in};
+ghost use Rattle.dl_net.specs.Kept.{AreKept, AreSettled, HasOrder, HasPairDropRoom, HasPairRoom, KeepsTables, MakesEdit, lists_of, meets, theory_in};
+ghost use Rattle.dl_lists.specs.Pairs.{no_pairs};
 ghost use Rattle.dl_net.specs.PairEdits.{HasRules, IsLinkOf};
 
 use crate::load::meet;
@@ -71,43 +72,40 @@ impl Tables {
         }
     }
 
-    /// Sees to it that pairs are found by their rules, or says why this one cannot go.
-    pub(crate) fn find_dropped_pair(&mut self, pair: &Pair) -> Result<(), EditStop>
+    /// Takes the memory so that a pair can go, or says why it cannot.
+    pub(crate) fn prepare_pair_drop(&mut self, pair: &Pair) -> Result<(), EditStop>
         requires kept { AreKept self.old }
         requires settled { AreSettled self.old }
         ensures answered { IsAnswered (theory_in self.old) (DropPair pair.now) result }
         ensures keeps { KeepsTables [] self.old self.new }
-        ensures room { OnOk result (FindsPairs self.new) }
+        ensures room { OnOk result (HasPairDropRoom self.new pair.now) }
         ensures settled { AreSettled self.new }
     {
         let link = match self.link_of(pair) {
             Ok(link) => link,
             Err(_) => return Err(EditStop::Refused(EditRefusal::NoPair)),
         };
-        self.pairs.prepare_places()?;
-        match self.pairs.place(link) {
-            None => Err(EditStop::Refused(EditRefusal::NoPair)),
-            Some(_) => Ok(()),
+        if !self.pairs.prepare_drop(link)? {
+            return Err(EditStop::Refused(EditRefusal::NoPair));
         }
+        self.index.reserve_unlink(link.upper, link.lower)?;
+        Ok(())
     }
 
     /// The pair goes, and leaves its number empty.
     pub(crate) fn drop_pair(&mut self, pair: &Pair)
         requires kept { AreKept self.old }
         requires accepted { IsAccepted (theory_in self.old) (DropPair pair.now) }
-        requires room { FindsPairs self.old }
+        requires room { HasPairDropRoom self.old pair.now }
         ensures { MakesEdit self.old (DropPair pair.now) self.new }
     {
-        match self.link_of(pair) {
-            Err(_) => unreachable!(),
-            Ok(link) => match self.pairs.place(link) {
-                None => unreachable!(),
-                Some(number) => {
-                    self.pairs.drop_at(number);
-                    self.index.take_link(link.upper, link.lower);
-                    drop_from(&mut self.order, link);
-                }
-            },
+        match self.pairs.leaving() {
+            None => unreachable!(),
+            Some(link) => {
+                self.pairs.drop_pair(link);
+                self.index.take_link(link.upper, link.lower);
+                drop_from(&mut self.order, link);
+            }
         }
     }
 
@@ -166,7 +164,7 @@ impl Tables {
     fn make_room(&mut self, link: Link) -> Result<(), Memory>
         requires kept { AreTables (lists_of self.old) }
         requires there { HasRules self.old.index.lines link }
-        ensures frame { self.new ≡ record self.old { pairs = record self.old.pairs { ready = self.new.pairs.ready }; index = self.new.index } }
+        ensures frame { self.new ≡ record self.old { pairs = record no_pairs { items = self.old.pairs.items; ready = self.new.pairs.ready }; index = self.new.index } }
         ensures kept { KeepsRules self.old.index self.new.index }
         ensures ready { OnOk result (self.new.pairs.ready ≡ Some link) }
         ensures below { OnOk result (meets self.new.index link ≡ true → self.new.index.linking ≡ Some (record { upper = link.upper; lower = link.lower })) }
@@ -181,7 +179,7 @@ impl Tables {
     /// A new pair goes out of the order again, and is not prepared.
     fn forget_link(&mut self, link: Link)
         requires { HasOrder self.old.order self.old.pairs.items (Some link) }
-        ensures frame { self.new ≡ record self.old { pairs = record self.old.pairs { ready = None }; order = self.new.order } }
+        ensures frame { self.new ≡ record self.old { pairs = record no_pairs { items = self.old.pairs.items }; order = self.new.order } }
         ensures order { HasOrder self.new.order self.old.pairs.items None }
     {
         self.pairs.forget();

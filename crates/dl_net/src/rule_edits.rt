@@ -3,7 +3,7 @@
 ghost use Rattle.std.specs.Prelude.{OnOk, OnErr, [], ◌∷◌};
 ghost use Rattle.dl_theory.specs.declared.edit.Edit.TheVariants.{AddRule, DropRule};
 ghost use Rattle.dl_theory.specs.Edits.{IsAccepted, IsAnswered};
-ghost use Rattle.dl_net.specs.Kept.{AreKept, AreSettled, FindsPairs, HasRuleRoom, KeepsTables, MakesEdit, theory_in};
+ghost use Rattle.dl_net.specs.Kept.{AreKept, AreSettled, HasRuleDropRoom, HasRuleRoom, KeepsTables, MakesEdit, theory_in};
 
 use crate::load::room_for_rule;
 use crate::tables::Tables;
@@ -49,30 +49,33 @@ impl Tables {
         self.index.put();
     }
 
-    /// Sees to it that the pairs of a rule are found, or says why it cannot go.
-    pub(crate) fn find_dropped_rule(&mut self, label: &Name) -> Result<(), EditStop>
+    /// Takes the memory so that a rule can go with its pairs, or says why it cannot.
+    pub(crate) fn prepare_rule_drop(&mut self, label: &Name) -> Result<(), EditStop>
         requires kept { AreKept self.old }
         requires settled { AreSettled self.old }
         ensures answered { IsAnswered (theory_in self.old) (DropRule label.now) result }
         ensures keeps { KeepsTables [] self.old self.new }
-        ensures room { OnOk result (FindsPairs self.new) }
+        ensures room { OnOk result (HasRuleDropRoom self.new label.now) }
         ensures settled { AreSettled self.new }
     {
-        if self.find_rule(label).is_none() {
-            return Err(EditStop::Refused(EditRefusal::NoLabel(label.copy()?)));
+        match self.find_rule(label) {
+            None => Err(EditStop::Refused(EditRefusal::NoLabel(label.copy()?))),
+            Some(number) => {
+                self.index.reserve_take(number)?;
+                self.pairs.prepare_drop_rule(number)?;
+                Ok(())
+            }
         }
-        self.pairs.prepare_places()?;
-        Ok(())
     }
 
     /// The rule with a label goes, and leaves its number empty, and with it the pairs that name it.
     pub(crate) fn drop_rule(&mut self, label: &Name)
         requires kept { AreKept self.old }
         requires accepted { IsAccepted (theory_in self.old) (DropRule label.now) }
-        requires room { FindsPairs self.old }
+        requires room { HasRuleDropRoom self.old label.now }
         ensures { MakesEdit self.old (DropRule label.now) self.new }
     {
-        match self.find_rule(label) {
+        match self.index.taking() {
             None => unreachable!(),
             Some(number) => {
                 self.index.take(number);

@@ -10,7 +10,8 @@ use dl_graph::Graph;
 use dl_lists::{FactNumbers, PairNumbers, RuleLabels};
 use dl_lit::Name;
 use dl_names::PairedNames;
-use dl_rows::{Region, Table};
+use dl_pages::Table;
+use dl_rows::Region;
 use dl_rules::Index;
 use dl_sup::Order;
 use std::alloc::Global;
@@ -93,18 +94,28 @@ impl Tables {
         self.graph().find_rule(label)
     }
 
-    /// From here on a copy shares the labels that are there, and the names that an earlier copy had. The first copy copies all names. Where
+    /// From here on a copy shares all that is there but names that no earlier copy had. What an edit was to take memory for is forgotten. Where
     /// memory for that lacks a copy only costs more, and no clause tells what is shared.
     pub(crate) fn freeze(&mut self)
-        requires { AreSettled self.old }
-        ensures { self.new ≡ self.old }
+        requires kept { AreKept self.old }
+        requires settled { AreSettled self.old }
+        ensures kept { AreKept self.new }
+        ensures settled { AreSettled self.new }
+        ensures net { net_in self.new ≡ net_in self.old }
+        ensures pairs { self.new.pairs.items ≡ self.old.pairs.items }
+        ensures order { self.new.order ≡ self.old.order }
     {
         self.names.freeze();
         self.labels.freeze();
+        self.facts.freeze();
+        self.pairs.freeze();
+        // without memory for that the marks are copied
+        let _marks = self.marks.freeze();
+        self.index.freeze();
     }
 
-    /// The same tables once more, without the order of the pairs. Names and labels that were frozen are shared, all else is copied. `Memory` where
-    /// there is none for them.
+    /// The same tables once more, without the order of the pairs. What was frozen is shared, at the cost of a pointer for each page, and all else
+    /// is copied. `Memory` where there is none for that.
     pub(crate) fn copy(&self) -> Result<Tables, Memory>
         requires kept { AreKept self.now }
         requires settled { AreSettled self.now }

@@ -1,17 +1,15 @@
 -- Lists that stand one behind another.
-use Rattle.std.proofs.Common.{◌≡◌, ◌≢◌, ℕ, ◌+◌, ◌<◌, ◌≤◌, List, [], ◌∷◌, ◌++◌, length, get_or, take, drop, set, map, rules, refl, sym, ap, subst, ◌∙◌, arith, inl, inr, length-append, get_or-set_same, get_or-set_other}
-use Rattle.std.specs.Prelude.{All, cond, ◌==◌}
+use Rattle.std.proofs.Common.{◌≡◌, ◌≢◌, ℕ, ◌+◌, ◌<◌, ◌≤◌, List, [], ◌∷◌, ◌++◌, length, get_or, take, drop, set, map, refl, sym, ap, subst, ◌∙◌, arith, inl, inr, length-append, get_or-set_same, get_or-set_other}
+use Rattle.std.specs.Prelude.{All}
 use Rattle.std.proofs.lemmas.List.Elements.{All-head, All-tail}
-use Rattle.std.proofs.Math.ListN.{length-set, length-map, get_or-append}
+use Rattle.std.proofs.Math.ListN.{length-set, get_or-append}
 use Rattle.std.proofs.lemmas.Bool.{cases_eq, cases_lt}
-use Rattle.std.proofs.lemmas.List.{get_or-take, get_or-drop, get_or_default, get_or_past, get_or_push, length-take, length-drop, map-set, set-set, drop-set-add, take_more_set, get_or-map, take-append-le, length-take-le, drop_at, places}
-use Rattle.std.proofs.lemmas.Slice.{take-put_mid_below, drop-put_mid}
-use borrow.Rule.Slice.PartMut.{put_mid, post_of}
+use Rattle.std.proofs.lemmas.List.{get_or-take, get_or-drop, get_or_default, get_or_past, get_or_push, length-take, length-drop, map-set, set-set, drop-set-add, take_more_set, get_or-map}
 use Rattle.std.proofs.lemmas.Grind.{same_number_lists}
 use Rattle.dl_rows.specs.declared.packed_rows.Span.{Span}
 use Rattle.dl_rows.specs.Packed.{no_span, in_span, span_at, room_end, ArePacked}
-use Rattle.dl_rows.specs.Tables.{drop_item, list_of}
-use Rattle.dl_rows.proofs.TableLemmas.{map_changed, written_at}
+use Rattle.dl_rows.specs.Tables.{list_of}
+use Rattle.dl_rows.proofs.TableLemmas.{map_changed}
 
 -- ---- the numbers of one list
 
@@ -50,14 +48,6 @@ module _ (spans : List Span) (all : ℕ) (p : ArePacked spans all) (h : ℕ) (wi
       elim (cases_lt (h + 1) (length spans)) [
         | inl lt ↦ omega (arith, room_is lt, p.within (h + 1))
         | inr past ↦ omega (arith, room_last past)
-      ]
-
-  -- a list ends where its room does, or before
-  pub ends_in_room : (span_at spans h).start + (span_at spans h).len ≤ room_end spans h all
-  ends_in_room =
-      elim (cases_lt (h + 1) (length spans)) [
-        | inl lt ↦ omega (arith, room_is lt, p.rising h (h + 1) (omega arith) lt)
-        | inr past ↦ omega (arith, room_last past, p.within h)
       ]
 
   -- the room ends before each list behind
@@ -193,7 +183,7 @@ none_have items (s ∷ ss) (c ∷ cs) none long =
     λ i. take (All-head (λ (t : Span). t.len ≡ 0) s ss none i) (drop s.start items)
     ∷ none_have items ss cs (All-tail (λ (t : Span). t.len ≡ 0) s ss none) (omega (arith, long)) i
 
--- ---- what a number more, no number, or fewer numbers make of one list
+-- ---- what a number more makes of one list
 
 module _ (spans : List Span) (items : List ℕ) (p : ArePacked spans (length items)) (h : ℕ) (within : h < length spans) (span : Span)
     (read : span ≡ get_or spans h span) where
@@ -205,22 +195,6 @@ module _ (spans : List Span) (items : List ℕ) (p : ArePacked spans (length ite
 
   starts : span.start ≡ (span_at spans h).start
   starts = ap (λ (s : Span). s.start) (sym at_hand)
-
-  ends : span.start + span.len ≤ room_end spans h (length items)
-  ends =
-      let least : (span_at spans h).start + (span_at spans h).len ≤ room_end spans h (length items) = ends_in_room spans (length items) p h within in
-      subst (λ (s : Span). s.start + s.len ≤ room_end spans h (length items)) at_hand least
-
-  at_hand_within : span.start + span.len ≤ length items
-  at_hand_within = subst (λ (s : Span). s.start + s.len ≤ length items) at_hand (p.within h)
-
-  by_number : (f : List ℕ → List ℕ) (items' : List ℕ) (spans' : List Span) → map (in_span items') spans' ≡ set (map (in_span items) spans) h (f (in_span items span))
-      → (n : ℕ) → list_of (map (in_span items') spans') n
-      ≡ cond (n == h) (f (list_of (map (in_span items) spans) n)) (list_of (map (in_span items) spans) n)
-  by_number f items' spans' put =
-      written_at f (record { lists = map (in_span items) spans; spare = [] }) (record { lists = map (in_span items') spans'; spare = [] }) h
-      (omega (arith, within, length-map spans (in_span items)))
-      (put ∙ ap (λ ls. set (map (in_span items) spans) h (f ls)) (sym list_at_hand))
 
   module _ (x : ℕ) (room : span.start + span.len < room_end spans h (length items)) where
     pub appended_packed : ArePacked (set spans h (record { start = span.start; len = span.len + 1 })) (length (set items (span.start + span.len) x))
@@ -236,80 +210,3 @@ module _ (spans : List Span) (items : List ℕ) (p : ArePacked spans (length ite
         (λ k more. get_or-set_other items (span.start + span.len) k x 0 (λ e. absurd (omega (arith, e, more, room))))
         (record { start = span.start; len = span.len + 1 }) (list_of (map (in_span items) spans) h ++ x ∷ [])
         (in_span_more items span x (omega (arith, room, room_within spans (length items) p h within)) ∙ ap (λ (xs : List ℕ). xs ++ x ∷ []) (sym list_at_hand))
-
-  -- fewer of the numbers, or none
-  pub shrunk_packed : (kept : ℕ) → kept ≤ span.len → ArePacked (set spans h (record { start = span.start; len = kept })) (length items)
-  shrunk_packed kept few = packed_changed spans (length items) p h within (record { start = span.start; len = kept }) starts (omega (arith, ends, few))
-
-  pub cleared_lists : (n : ℕ) → list_of (map (in_span items) (set spans h (record { start = span.start; len = 0 }))) n
-      ≡ cond (n == h) [] (list_of (map (in_span items) spans) n)
-  cleared_lists =
-      by_number (λ _. []) items (set spans h (record { start = span.start; len = 0 }))
-      (packed_written spans items items p h within refl (λ k less. refl) (λ k more. refl) (record { start = span.start; len = 0 }) [] refl)
-
-  -- the numbers of the list are written over by others, of which the first ones stay
-  module _ (wide kept x : ℕ) (ys : List ℕ) (all : wide ≡ span.len) (long : length ys ≡ wide) (few : kept ≤ wide)
-      (are : take kept ys ≡ drop_item x (take wide (drop span.start items))) where
-    starts_within : span.start ≤ length items
-    starts_within = omega (arith, at_hand_within)
-
-    over_long : length (put_mid span.start wide items ys) ≡ length items
-    over_long = search (rules, places)
-
-    over_below : (k : ℕ) → k < (span_at spans h).start → get_or (put_mid span.start wide items ys) k 0 ≡ get_or items k 0
-    over_below k less =
-        let low : k < span.start = omega (arith, less, starts) in
-        sym (get_or-take span.start (put_mid span.start wide items ys) k 0 low)
-        ∙ ap (λ (xs : List ℕ). get_or xs k 0) (take-put_mid_below span.start wide items ys span.start (omega arith) starts_within)
-        ∙ get_or-take span.start items k 0 low
-
-    over_above : (k : ℕ) → room_end spans h (length items) ≤ k → get_or (put_mid span.start wide items ys) k 0 ≡ get_or items k 0
-    over_above k more =
-        let none : k ≡ k + 0 = omega arith in
-        ap (λ j. get_or (put_mid span.start wide items ys) j 0) none ∙ sym (get_or-drop k (put_mid span.start wide items ys) 0 0)
-        ∙ ap (λ (xs : List ℕ). get_or xs 0 0) (drop-put_mid span.start wide items ys k (omega (arith, ends, all, more)) starts_within long)
-        ∙ get_or-drop k items 0 0 ∙ ap (λ j. get_or items j 0) (sym none)
-
-    over_here : in_span (put_mid span.start wide items ys) (record { start = span.start; len = kept }) ≡ drop_item x (in_span items span)
-    over_here =
-        ap (take kept) (drop_at (take span.start items) (ys ++ post_of span.start wide items) span.start (length-take-le span.start items starts_within))
-        ∙ take-append-le kept ys (post_of span.start wide items) (omega (arith, few, long))
-        ∙ are ∙ ap (λ n. drop_item x (take n (drop span.start items))) all
-
-    over_lists : (n : ℕ) → list_of (map (in_span (put_mid span.start wide items ys)) (set spans h (record { start = span.start; len = kept }))) n
-        ≡ cond (n == h) (drop_item x (list_of (map (in_span items) spans) n)) (list_of (map (in_span items) spans) n)
-    over_lists =
-        by_number (drop_item x) (put_mid span.start wide items ys) (set spans h (record { start = span.start; len = kept }))
-        (packed_written spans items (put_mid span.start wide items ys) p h within over_long over_below over_above
-        (record { start = span.start; len = kept }) (drop_item x (in_span items span)) over_here)
-
-  -- a part of the numbers is lent, comes back as others, and only the first of them are told of
-  module _ (wide kept x : ℕ) (ys lent : List ℕ) (same : lent ≡ items) (all : wide ≡ span.len) (long : length ys ≡ length (take wide (drop span.start lent)))
-      (few : kept ≤ length (take wide (drop span.start lent))) (are : take kept ys ≡ drop_item x (take wide (drop span.start lent))) where
-    lent_long : length (take wide (drop span.start lent)) ≡ wide
-    lent_long =
-        ap (λ (xs : List ℕ). length (take wide (drop span.start xs))) same ∙ ap (λ n. length (take n (drop span.start items))) all
-        ∙ in_span_length items span at_hand_within ∙ sym all
-
-    back_is : put_mid span.start wide lent ys ≡ put_mid span.start wide items ys
-    back_is = ap (λ (xs : List ℕ). put_mid span.start wide xs ys) same
-
-    few_lent : kept ≤ wide
-    few_lent = omega (arith, few, lent_long)
-
-    pub fewer : kept ≤ span.len
-    fewer = omega (arith, few_lent, all)
-
-    are_lent : take kept ys ≡ drop_item x (take wide (drop span.start items))
-    are_lent = are ∙ ap (λ (xs : List ℕ). drop_item x (take wide (drop span.start xs))) same
-
-    pub back_long : length (put_mid span.start wide lent ys) ≡ length items
-    back_long = ap length back_is ∙ over_long wide kept x ys all (long ∙ lent_long) few_lent are_lent
-
-    pub removed_lists : (back : List ℕ) (lists : List (List ℕ)) → back ≡ put_mid span.start wide lent ys → map (in_span items) spans ≡ lists
-        → (n : ℕ) → list_of (map (in_span back) (set spans h (record { start = span.start; len = kept }))) n
-        ≡ cond (n == h) (drop_item x (list_of lists n)) (list_of lists n)
-    removed_lists back lists is held n =
-        ap (λ (xs : List ℕ). list_of (map (in_span xs) (set spans h (record { start = span.start; len = kept }))) n) (is ∙ back_is)
-        ∙ over_lists wide kept x ys all (long ∙ lent_long) few_lent are_lent n
-        ∙ ap (λ (ls : List (List ℕ)). cond (n == h) (drop_item x (list_of ls n)) (list_of ls n)) held

@@ -1,7 +1,7 @@
 -- A table of lists of numbers.
-use Rattle.std.specs.Prelude.{◌≡◌, ℕ, ◌≤◌, ◌==◌, not, List, [], length, get_or, filter}
+use Rattle.std.specs.Prelude.{◌≡◌, ℕ, ◌<◌, ◌≤◌, ◌==◌, not, List, [], length, get_or, filter}
 
--- the lists, and how many numbers more each of them takes without memory
+-- the lists, and how many numbers more each of them takes without memory: none where it is shared
 pub record RowLists : Type 0 where
   pub lists : List (List ℕ)
   pub spare : List ℕ
@@ -19,6 +19,10 @@ list_at t n = get_or t.lists n []
 
 abbrev pub spare_at : RowLists → ℕ → ℕ
 spare_at t n = get_or t.spare n 0
+
+-- a list that is there has room for one more number, and so is the table's own
+abbrev pub IsOpen : RowLists → ℕ → Type 0
+IsOpen t n = n < length t.lists → 0 < spare_at t n
 
 -- no list is longer or shorter, and none has less room
 pub record KeepsLists (old new : RowLists) : Type 0 where

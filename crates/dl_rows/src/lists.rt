@@ -1,7 +1,7 @@
 //! Lists of numbers by number.
 
-ghost use Rattle.std.specs.Prelude.{◌≡◌, ℕ, ◌<◌, ◌==◌, [], ◌∷◌, ◌++◌, List, OnOk, OnErr, length, slice_get, set, if◌then◌else◌};
-ghost use Rattle.dl_rows.specs.Tables.{list_of, drop_item};
+ghost use Rattle.std.specs.Prelude.{◌≡◌, ℕ, ◌<◌, [], ◌∷◌, ◌++◌, List, OnOk, OnErr, length, slice_get, set};
+ghost use Rattle.dl_rows.specs.Tables.{list_of};
 
 use dl_base::Memory;
 
@@ -33,7 +33,8 @@ pub trait Lists {
         self.row(number).get(at).copied()
     }
 
-    /// A number at the end of a list. `Memory` where there is none for it, or where the lists are packed and this one is full.
+    /// A number at the end of a list. `Memory` where there is none for it, or where the lists are packed and
+    /// this one is full, or all are shared.
     fn append(&mut self, number: usize, item: u32) -> Result<(), Memory>
         requires { number < length (lists self.old) }
         ensures lists { OnOk result (lists self.new ≡ set (lists self.old) number (list_of (lists self.old) number ++ item ∷ [])) }
@@ -42,14 +43,4 @@ pub trait Lists {
     /// Whether one more number has room in a list without moving it. To ask brings near where the list stands, and no clause rests on
     /// the answer.
     fn has_room(&self, number: usize) -> bool;
-
-    /// Takes a number out of a list. Past the end no list has any.
-    fn remove(&mut self, number: usize, item: u32)
-        ensures lists { (n : ℕ) → list_of (lists self.new) n ≡ (if n == number then drop_item item (list_of (lists self.old) n) else list_of (lists self.old) n) }
-        ensures same { length (lists self.new) ≡ length (lists self.old) };
-
-    /// Empties a list.
-    fn clear(&mut self, number: usize)
-        ensures lists { (n : ℕ) → list_of (lists self.new) n ≡ (if n == number then [] else list_of (lists self.old) n) }
-        ensures same { length (lists self.new) ≡ length (lists self.old) };
 }

@@ -1,19 +1,20 @@
 //! Lists of numbers by number, each with room of its own.
 
-ghost use Rattle.std.specs.Prelude.{◌≡◌, ℕ, ◌+◌, ◌-◌, ◌<◌, ◌≤◌, ◌≢◌, ◌==◌, [], ◌∷◌, ◌++◌, OnOk, OnErr, IfOk, map, length, slice_get, set, if◌then◌else◌};
-ghost use Rattle.dl_rows.specs.Tables.{no_table, list_at, spare_at, drop_item, KeepsLists};
+ghost use Rattle.std.specs.Prelude.{◌≡◌, ℕ, ◌+◌, ◌<◌, ◌≤◌, ◌≢◌, ◌==◌, [], ◌∷◌, ◌++◌, OnOk, OnErr, IfOk, length, slice_get, set, if◌then◌else◌};
+ghost use Rattle.dl_rows.specs.Tables.{no_table, list_at, spare_at, drop_item, KeepsLists, IsOpen};
 
+use crate::held_rows::HeldRows;
 use crate::lists::Lists;
-use crate::packed_rows::PackedRows;
 use crate::row::Row;
 use dl_base::Memory;
+use dl_pages::Table;
 use std::alloc::Global;
 use std::marker::Model;
 
-/// A list of numbers at each number, which grows on its own.
+/// A list of numbers at each number, which grows on its own. A list is written only where it is not shared.
 #[derive(Drop)]
 pub struct OpenRows {
-    rows: Vec<Row>,
+    rows: Table<Row>,
 }
 
 impl Model for OpenRows {
@@ -31,28 +32,35 @@ impl OpenRows {
         ensures { result ≡ no_table }
     {
         OpenRows {
-            rows: Vec::new(alloc),
+            rows: Table::make(alloc),
         }
     }
 
     /// The lists that stood packed.
-    pub fn of(packed: &PackedRows) -> Result<OpenRows, Memory>
+    pub fn of(packed: &HeldRows) -> Result<OpenRows, Memory>
         ensures { IfOk result (λ rows. rows.lists ≡ packed.now) }
     {
         let alloc = packed.alloc();
-        let mut rows = Vec::with_capacity(alloc, packed.len())?;
+        let mut rows = Table::with_room(alloc, packed.len())?;
         for number in 0..packed.len() {
-            rows.push_reserved(Row::of(alloc, packed.row(number))?);
+            rows.push(Row::of(alloc, packed.row(number))?);
         }
         Ok(OpenRows { rows })
     }
 
-    /// The same lists, each with room of its own.
+    /// The same lists. Those that are frozen are shared.
     pub fn copy(&self) -> Result<OpenRows, Memory>
         ensures { IfOk result (λ copy. copy.lists ≡ self.now.lists) }
     {
-        let rows = copied(*self.rows.allocator(), &self.rows)?;
+        let rows = self.rows.copy()?;
         Ok(OpenRows { rows })
+    }
+
+    /// All lists can be shared from here on, and none is written before it is reserved again.
+    pub fn freeze(&mut self) -> Result<(), Memory>
+        ensures { self.new.lists ≡ self.old.lists }
+    {
+        self.rows.freeze()
     }
 
     /// One more list, which is empty.
@@ -61,21 +69,24 @@ impl OpenRows {
         ensures grown { OnOk result (length self.new.lists ≡ length self.old.lists + 1) }
         ensures err { OnErr result (self.new ≡ self.old) }
     {
-        self.rows.push(Row::make())?;
+        self.rows.reserve(1)?;
+        self.rows.push(Row::make());
         Ok(())
     }
 
-    /// Room for one more number in a list.
+    /// Room for one more number in a list, which is not shared from then on.
     pub fn reserve(&mut self, number: usize) -> Result<(), Memory>
         requires { number < length self.old.lists }
         ensures kept { KeepsLists self.old self.new }
         ensures same { length self.new.lists ≡ length self.old.lists }
         ensures room { OnOk result (0 < spare_at self.new number) }
     {
-        let alloc = *self.rows.allocator();
-        let row = &mut self.rows[number];
-        row.reserve(alloc)?;
-        Ok(())
+        let alloc = self.rows.alloc();
+        self.rows.own(number)?;
+        let mut row = self.rows.put(number, Row::make());
+        let reserved = row.reserve(alloc);
+        let _none = self.rows.put(number, row);
+        reserved
     }
 
     /// A number at the end of a list, in room that is there.
@@ -84,8 +95,29 @@ impl OpenRows {
         ensures lists { self.new.lists ≡ set self.old.lists number (list_at self.old number ++ item ∷ []) }
         ensures room { (n : ℕ) → n ≢ number → spare_at self.new n ≡ spare_at self.old n }
     {
-        let row = &mut self.rows[number];
+        let mut row = self.rows.put(number, Row::make());
         row.push_reserved(item);
+        let _none = self.rows.put(number, row);
+    }
+
+    /// Takes a number out of a list that has room for one more.
+    pub fn remove(&mut self, number: usize, item: u32)
+        requires { 0 < spare_at self.old number }
+        ensures lists { self.new.lists ≡ set self.old.lists number (drop_item item (list_at self.old number)) }
+        ensures room { (n : ℕ) → spare_at self.old n ≤ spare_at self.new n }
+    {
+        let mut row = self.rows.put(number, Row::make());
+        row.remove(item);
+        let _none = self.rows.put(number, row);
+    }
+
+    /// Empties a list that has room for one more number.
+    pub fn clear(&mut self, number: usize)
+        requires { 0 < spare_at self.old number }
+        ensures lists { self.new.lists ≡ set self.old.lists number [] }
+        ensures room { (n : ℕ) → n ≢ number → spare_at self.new n ≡ spare_at self.old n }
+    {
+        let _gone = self.rows.put(number, Row::make());
     }
 }
 
@@ -99,10 +131,10 @@ impl Lists for OpenRows {
 
     #[inline(always)]
     fn row(&self, number: usize) -> &[u32] {
-        match self.rows.get(number) {
-            None => &[],
-            Some(row) => row.as_slice(),
+        if number >= self.rows.len() {
+            return &[];
         }
+        self.rows.at(number).as_slice()
     }
 
     #[inline(always)]
@@ -115,31 +147,4 @@ impl Lists for OpenRows {
     fn has_room(&self, _number: usize) -> bool {
         true
     }
-
-    fn remove(&mut self, number: usize, item: u32) {
-        if number >= self.rows.len() {
-            return;
-        }
-        let row = &mut self.rows[number];
-        row.remove(item);
-    }
-
-    fn clear(&mut self, number: usize) {
-        if number >= self.rows.len() {
-            return;
-        }
-        let row = &mut self.rows[number];
-        row.clear();
-    }
-}
-
-/// Equal lists, in room of their number.
-fn copied(alloc: Global, rows: &[Row]) -> Result<Vec<Row>, Memory>
-    ensures { IfOk result (λ copy. map (λ v. v.items) copy.items ≡ map (λ v. v.items) rows.now) }
-{
-    let mut copy = Vec::with_capacity(alloc, rows.len())?;
-    for row in rows {
-        copy.push_reserved(row.copy()?);
-    }
-    Ok(copy)
 }

@@ -1,7 +1,7 @@
 //! Lists of numbers, packed one behind another.
 
-ghost use Rattle.std.specs.Prelude.{◌≡◌, ℕ, ◌+◌, ◌<◌, ◌≤◌, ◌==◌, [], ◌∷◌, ◌++◌, OnOk, OnErr, IfOk, map, length, set, slice_get, take, if◌then◌else◌};
-ghost use Rattle.dl_rows.specs.Tables.{drop_item, list_of};
+ghost use Rattle.std.specs.Prelude.{◌≡◌, ℕ, ◌+◌, ◌<◌, ◌≤◌, ◌==◌, [], ◌∷◌, ◌++◌, OnOk, OnErr, IfOk, map, length, set, slice_get};
+ghost use Rattle.dl_rows.specs.Tables.{list_of};
 ghost use Rattle.dl_rows.specs.Packed.{room_end};
 
 use crate::lists::Lists;
@@ -36,6 +36,16 @@ impl Model for PackedRows {
 }
 
 impl PackedRows {
+    /// No lists. Takes no memory.
+    pub fn none(alloc: Global) -> PackedRows
+        ensures { result ≡ [] }
+    {
+        PackedRows {
+            spans: Vec::new(alloc),
+            items: Vec::new(alloc),
+        }
+    }
+
     /// Empty lists with room for so many numbers each. `Memory` where there is none for them, or where they have more room together than
     /// numbers of 32 bits tell.
     pub fn with_room(alloc: Global, counts: &[u32]) -> Result<PackedRows, Memory>
@@ -119,30 +129,6 @@ impl Lists for PackedRows {
             }
         }
     }
-
-    fn remove(&mut self, number: usize, item: u32) {
-        if number >= self.spans.len() {
-            return;
-        }
-        let span = self.spans[number];
-        let start = span.start as usize;
-        let kept = keep_others(&mut self.items[start..start + span.len as usize], item);
-        self.spans[number] = Span {
-            start: span.start,
-            len: kept as u32,
-        };
-    }
-
-    fn clear(&mut self, number: usize) {
-        if number >= self.spans.len() {
-            return;
-        }
-        let span = self.spans[number];
-        self.spans[number] = Span {
-            start: span.start,
-            len: 0,
-        };
-    }
 }
 
 /// Where the room of a list ends: where the next one begins, or at the end of all.
@@ -155,21 +141,4 @@ fn room_end(spans: &[Span], number: usize, all: usize) -> usize
         None => all,
         Some(next) => next.start as usize,
     }
-}
-
-/// Moves the other numbers to the front, and tells how many there are.
-fn keep_others(items: &mut [u32], item: u32) -> usize
-    ensures same { length items.new ≡ length items.old }
-    ensures few { result ≤ length items.old }
-    ensures kept { take result items.new ≡ drop_item item items.old }
-{
-    let mut kept = 0;
-    for at in 0..items.len() {
-        let number = items[at];
-        if number != item {
-            items[kept] = number;
-            kept += 1;
-        }
-    }
-    kept
 }

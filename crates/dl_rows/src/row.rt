@@ -7,7 +7,7 @@ ghost use Rattle.dl_rows.specs.Row.{no_row};
 ghost use Rattle.dl_rows.specs.KeptRow.{row_of, IsKeptRow};
 
 use dl_base::Memory;
-use std::alloc::Global;
+use std::alloc::{AllocError, Global};
 use std::marker::Model;
 
 /// As many numbers as stand in the list itself.
@@ -67,19 +67,6 @@ impl Row {
             Numbers::Many(Box::new(alloc, list)?)
         };
         Ok(Row { numbers })
-    }
-
-    /// An equal list. `Memory` where there is none for it.
-    #[inline(always)]
-    pub fn copy(&self) -> Result<Row, Memory>
-        ensures { IfOk result (λ copy. copy.items ≡ self.now.items) }
-    {
-        match &self.numbers {
-            Numbers::Few(len, numbers) => Ok(Row {
-                numbers: Numbers::Few(*len, *numbers),
-            }),
-            Numbers::Many(list) => Row::of(*list.allocator(), list.as_slice()),
-        }
     }
 
     /// Room for one more number. `Memory` leaves the list as it was.
@@ -142,7 +129,8 @@ impl Row {
 
     /// Takes a number out, wherever it stands.
     pub fn remove(&mut self, item: u32)
-        ensures { self.new.items ≡ drop_item item self.old.items }
+        ensures items { self.new.items ≡ drop_item item self.old.items }
+        ensures spare { self.old.spare ≤ self.new.spare }
     {
         match &mut self.numbers {
             Numbers::Few(_, _) => {}
@@ -177,6 +165,34 @@ impl Row {
             Numbers::Many(list) => list.as_slice(),
         }
     }
+}
+
+/// An equal list, with as much room.
+impl Clone for Row {
+    ghost is_clone = { λ row copy. copy ≡ row };
+
+    fn clone(&self) -> Result<Row, AllocError> {
+        let numbers = match &self.numbers {
+            Numbers::Few(len, numbers) => Numbers::Few(*len, *numbers),
+            Numbers::Many(list) => Numbers::Many(as_roomy(list)?),
+        };
+        Ok(Row { numbers })
+    }
+}
+
+/// The same numbers, with as much room.
+fn as_roomy(list: &Vec<u32>) -> Result<Box<Vec<u32>>, AllocError>
+    ensures items { IfOk result (λ copy. copy.value.items ≡ list.now.items) }
+    ensures len { IfOk result (λ copy. vec_len copy.value ≡ vec_len list.now) }
+    ensures room { IfOk result (λ copy. vec_capacity copy.value ≡ vec_capacity list.now) }
+{
+    let alloc = *list.allocator();
+    let mut copy = Vec::with_capacity(alloc, list.capacity())?;
+    for number in list {
+        copy.push_reserved(*number);
+    }
+    let copy = Box::new(alloc, copy)?;
+    Ok(copy)
 }
 
 /// A few numbers in place.
@@ -218,7 +234,8 @@ fn moved(alloc: Global, numbers: &[u32]) -> Result<Box<Vec<u32>>, Memory>
 /// A few numbers without one of them.
 fn without(numbers: &[u32], item: u32) -> Row
     requires { length numbers.now ≤ 3 }
-    ensures { result.items ≡ drop_item item numbers.now }
+    ensures items { result.items ≡ drop_item item numbers.now }
+    ensures spare { 3 ≤ result.spare + length numbers.now }
 {
     let mut left = Row::make();
     for number in numbers {

@@ -1,8 +1,9 @@
 //! Lists of numbers by number.
 
 ghost use Rattle.std.specs.Prelude.{◌≡◌, ℕ, ◌+◌, ◌<◌, ◌≤◌, ◌≢◌, ◌==◌, [], ◌∷◌, ◌++◌, OnOk, OnErr, IfOk, map, length, slice_get, set, if◌then◌else◌};
-ghost use Rattle.dl_rows.specs.Tables.{no_table, list_at, spare_at, drop_item, KeepsLists};
+ghost use Rattle.dl_rows.specs.Tables.{no_table, list_at, spare_at, drop_item, KeepsLists, IsOpen};
 
+use crate::held_rows::HeldRows;
 use crate::lists::Lists;
 use crate::open_rows::OpenRows;
 use crate::packed_rows::PackedRows;
@@ -10,7 +11,8 @@ use dl_base::Memory;
 use std::alloc::Global;
 use std::marker::Model;
 
-/// A list of numbers at each number.
+/// A list of numbers at each number. What is frozen is shared with each copy, and a list is copied, with those beside it, before it is written
+/// again: to reserve it does that.
 pub struct RowTable {
     rows: Rows,
 }
@@ -25,7 +27,7 @@ impl Drop for RowTable {
 #[derive(Drop)]
 enum Rows {
     Open(OpenRows),
-    Packed(PackedRows),
+    Packed(HeldRows),
 }
 
 impl Model for RowTable {
@@ -55,11 +57,11 @@ impl RowTable {
     {
         let rows = PackedRows::with_room(alloc, counts)?;
         Ok(RowTable {
-            rows: Rows::Packed(rows),
+            rows: Rows::Packed(HeldRows::of(rows)),
         })
     }
 
-    /// The same lists once more. `Memory` where there is none for them.
+    /// The same lists once more. Those that are frozen are shared, and the others copied. `Memory` where there is none for that.
     pub fn copy(&self) -> Result<RowTable, Memory>
         ensures { IfOk result (λ copy. copy.lists ≡ self.now.lists) }
     {
@@ -87,8 +89,8 @@ impl RowTable {
         }
     }
 
-    /// Room for one more number in a list. Packed lists are opened for it, once for all. `Memory` where there is none for it leaves the
-    /// lists as they were.
+    /// Room for one more number in a list, which is not shared from then on. Packed lists are opened for it, once for all. `Memory` where there
+    /// is none for it leaves the lists as they were.
     pub fn reserve(&mut self, number: usize) -> Result<(), Memory>
         requires { number < length self.old.lists }
         ensures kept { KeepsLists self.old self.new }
@@ -116,6 +118,61 @@ impl RowTable {
             Rows::Open(rows) => rows.push(number, item),
             // packed lists have no room that is known of
             Rows::Packed(_) => unreachable!(),
+        }
+    }
+
+    /// From here on the list at a number, if there is one, can lose numbers. `Memory` where there is none for that leaves the lists as they were.
+    pub fn open(&mut self, number: usize) -> Result<(), Memory>
+        ensures kept { KeepsLists self.old self.new }
+        ensures same { length self.new.lists ≡ length self.old.lists }
+        ensures open { OnOk result (IsOpen self.new number) }
+    {
+        if number >= self.len() {
+            return Ok(());
+        }
+        self.reserve(number)
+    }
+
+    /// Takes a number out of a list. Past the end no list has any.
+    pub fn remove(&mut self, number: usize, item: u32)
+        requires { IsOpen self.old number }
+        ensures lists { (n : ℕ) → list_at self.new n ≡ (if n == number then drop_item item (list_at self.old n) else list_at self.old n) }
+        ensures same { length self.new.lists ≡ length self.old.lists }
+        ensures room { (n : ℕ) → spare_at self.old n ≤ spare_at self.new n }
+    {
+        if number >= self.len() {
+            return;
+        }
+        match &mut self.rows {
+            Rows::Open(rows) => rows.remove(number, item),
+            Rows::Packed(_) => unreachable!(),
+        }
+    }
+
+    /// Empties a list.
+    pub fn clear(&mut self, number: usize)
+        requires { IsOpen self.old number }
+        ensures lists { (n : ℕ) → list_at self.new n ≡ (if n == number then [] else list_at self.old n) }
+        ensures same { length self.new.lists ≡ length self.old.lists }
+        ensures room { (n : ℕ) → n ≢ number → spare_at self.old n ≤ spare_at self.new n }
+    {
+        if number >= self.len() {
+            return;
+        }
+        match &mut self.rows {
+            Rows::Open(rows) => rows.clear(number),
+            Rows::Packed(_) => unreachable!(),
+        }
+    }
+
+    /// All lists can be shared from here on, and none is written before it is reserved or opened again. `Memory` where there is none for
+    /// that: then fewer are shared.
+    pub fn freeze(&mut self) -> Result<(), Memory>
+        ensures { self.new.lists ≡ self.old.lists }
+    {
+        match &mut self.rows {
+            Rows::Open(rows) => rows.freeze(),
+            Rows::Packed(rows) => rows.freeze(),
         }
     }
 }
@@ -152,20 +209,6 @@ impl Lists for RowTable {
         match &self.rows {
             Rows::Open(rows) => rows.has_room(number),
             Rows::Packed(rows) => rows.has_room(number),
-        }
-    }
-
-    fn remove(&mut self, number: usize, item: u32) {
-        match &mut self.rows {
-            Rows::Open(rows) => rows.remove(number, item),
-            Rows::Packed(rows) => rows.remove(number, item),
-        }
-    }
-
-    fn clear(&mut self, number: usize) {
-        match &mut self.rows {
-            Rows::Open(rows) => rows.clear(number),
-            Rows::Packed(rows) => rows.clear(number),
         }
     }
 }

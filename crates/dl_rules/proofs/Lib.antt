@@ -7,3 +7,4 @@ pub mod RuleLemmas
 pub mod LinkLemmas
 pub mod TakeLemmas
 pub mod PutLemmas
+pub mod OpenLemmas

@@ -1,14 +1,15 @@
 -- Rules by number, from their columns.
 use Rattle.std.proofs.Common.{◌≡◌, ℕ, zero, suc, ◌<◌, ◌≤◌, Option, None, Some, List, [], ◌∷◌, ◌++◌, length, get_or, set, refl, sym, ap, ◌∙◌, arith, true≢false}
-use Rattle.std.specs.Prelude.{IsSome, is_some, unwrap_or, option_map}
+use Rattle.std.specs.Prelude.{IsSome, is_some, unwrap_or, option_map, ◌&&◌, Bool, true, false}
+use Rattle.dl_rows.proofs.NumberLists.{and_false}
 use Rattle.std.proofs.lemmas.List.{get_or_default, get_or_past}
 use Rattle.dl_theory.specs.declared.rule.Kind.{Kind}
 use Rattle.dl_rules.specs.declared.slot.Slot.{Slot}
 use Rattle.dl_rules.specs.declared.slot.Slot.TheVariants.{Strict, Defeasible, Defeater, Gone}
 use Rattle.dl_rules.specs.declared.lines.Lines.TheInside.{Inside}
-use Rattle.dl_rows.specs.Listed.{Listed}
+use Rattle.dl_pages.specs.Paged.{PagedItems}
 use Rattle.dl_rules.specs.Lines.{Line, no_line, line_at, IsThere}
-use Rattle.dl_rules.specs.KeptLines.{kind_in, line_of, joined, AreAsLong, lines_of, IsKeptLines}
+use Rattle.dl_rules.specs.KeptLines.{kind_in, line_of, joined, both, AreAsLong, lines_of, IsKeptLines}
 use Rattle.dl_rules.proofs.ThereLemmas.{there_within}
 
 tail_long : {s : Slot} {h : ℕ} {b : List ℕ} {ss : List Slot} {hs : List ℕ} {bs : List (List ℕ)} → AreAsLong (s ∷ ss) (h ∷ hs) (b ∷ bs) → AreAsLong ss hs bs
@@ -51,6 +52,26 @@ joined_gone (x ∷ ss) (y ∷ hs) (z ∷ bs) e (suc n) b =
     ap (λ (ls : List (Option Line)). line_of (kind_in x) y z ∷ ls)
     (joined_gone ss hs bs (tail_long e) n b)
 
+-- ---- what holds of both at a place
+
+both_at : (xs ys : List Bool) (n : ℕ) → get_or (both xs ys) n false ≡ (get_or xs n false && get_or ys n false)
+both_at [] ys n = refl
+both_at (x ∷ xs) [] zero = sym (and_false x)
+both_at (x ∷ xs) [] (suc n) = sym (and_false (get_or xs n false))
+both_at (x ∷ xs) (y ∷ ys) zero = refl
+both_at (x ∷ xs) (y ∷ ys) (suc n) = both_at xs ys n
+
+pub both_parts : (xs ys : List Bool) (n : ℕ) → get_or (both xs ys) n false ≡ true → (get_or xs n false ≡ true) × (get_or ys n false ≡ true)
+both_parts xs ys n h = by (get_or xs n false) (get_or ys n false) (sym (both_at xs ys n) ∙ h)
+  where
+    by : (a b : Bool) → (a && b) ≡ true → (a ≡ true) × (b ≡ true)
+    by true true e = (refl, refl)
+    by true false e = absurd (true≢false (sym e))
+    by false b e = absurd (true≢false (sym e))
+
+pub both_made : (xs ys : List Bool) (n : ℕ) → get_or xs n false ≡ true → get_or ys n false ≡ true → get_or (both xs ys) n false ≡ true
+both_made xs ys n here there = both_at xs ys n ∙ ap (λ b. b && get_or ys n false) here ∙ there
+
 -- ---- what is read of one rule
 
 found_in : (o : Option Kind) (h : ℕ) (b : List ℕ) → o ≡ option_map (λ (l : Line). l.kind) (line_of o h b)
@@ -68,9 +89,9 @@ body_in Defeater h b bare = refl
 body_in Gone h b bare = bare refl
 
 -- what the columns of a list of rules say of it
-module _ (a : Inside) (kept : IsKeptLines a) (v : Listed (Option Line)) (is : lines_of a ≡ v) where
+module _ (a : Inside) (kept : IsKeptLines a) (v : PagedItems (Option Line)) (is : lines_of a ≡ v) where
   pub items_length : length a.slots.items ≡ length v.items
-  items_length = sym (joined_length a.slots.items a.heads.items a.bodies.items kept.long) ∙ ap (λ (l : Listed (Option Line)). length l.items) is
+  items_length = sym (joined_length a.slots.items a.heads.items a.bodies.items kept.long) ∙ ap (λ (l : PagedItems (Option Line)). length l.items) is
 
   pub items_pushed : (s : Slot) (k : Kind) (h : ℕ) (b : List ℕ) (ss : List Slot) (hs : List ℕ) (bs : List (List ℕ)) → kind_in s ≡ Some k → ss ≡ a.slots.items ++ s ∷ []
       → hs ≡ a.heads.items ++ h ∷ [] → bs ≡ a.bodies.items ++ b ∷ [] → joined ss hs bs ≡ v.items ++ Some (record { kind = k; head = h; body = b }) ∷ []
@@ -78,14 +99,14 @@ module _ (a : Inside) (kept : IsKeptLines a) (v : Listed (Option Line)) (is : li
       (λ i. joined (slots i) (heads i) (bodies i))
       ∙ joined_push a.slots.items a.heads.items a.bodies.items kept.long s h b
       ∙ ap (λ (o : Option Kind). joined a.slots.items a.heads.items a.bodies.items ++ line_of o h b ∷ []) some
-      ∙ ap (λ (ls : Listed (Option Line)). ls.items ++ Some (record { kind = k; head = h; body = b }) ∷ []) is
+      ∙ ap (λ (ls : PagedItems (Option Line)). ls.items ++ Some (record { kind = k; head = h; body = b }) ∷ []) is
 
   pub items_gone : (x : ℕ) (ss : List Slot) (bs : List (List ℕ)) → ss ≡ set a.slots.items x Gone → bs ≡ set a.bodies.items x []
       → joined ss a.heads.items bs ≡ set v.items x None
   items_gone x ss bs slots bodies =
       (λ i. joined (slots i) a.heads.items (bodies i))
       ∙ joined_gone a.slots.items a.heads.items a.bodies.items kept.long x []
-      ∙ ap (λ (ls : Listed (Option Line)). set ls.items x None) is
+      ∙ ap (λ (ls : PagedItems (Option Line)). set ls.items x None) is
 
   module _ (n : ℕ) (lt : n < length v.items) where
     pub in_slots : n < length a.slots.items
@@ -99,7 +120,7 @@ module _ (a : Inside) (kept : IsKeptLines a) (v : Listed (Option Line)) (is : li
 
     item_is : (s : Slot) (h : ℕ) (b : List ℕ) → line_of (kind_in (get_or a.slots.items n s)) (get_or a.heads.items n h) (get_or a.bodies.items n b) ≡ get_or v.items n None
     item_is s h b =
-        sym (joined_at a.slots.items a.heads.items a.bodies.items kept.long n in_slots s h b) ∙ ap (λ (l : Listed (Option Line)). get_or l.items n None) is
+        sym (joined_at a.slots.items a.heads.items a.bodies.items kept.long n in_slots s h b) ∙ ap (λ (l : PagedItems (Option Line)). get_or l.items n None) is
 
     pub kind_is : (s : Slot) → s ≡ get_or a.slots.items n s → kind_in s ≡ option_map (λ (l : Line). l.kind) (get_or v.items n None)
     kind_is s read =

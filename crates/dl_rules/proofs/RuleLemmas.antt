@@ -5,7 +5,7 @@ use Rattle.std.proofs.Math.ListN.{length-set}
 use Rattle.std.proofs.lemmas.List.Elements.{All-weaker, All-contains_itself}
 use Rattle.dl_rows.specs.Counting.{times, is_in}
 use Rattle.dl_rows.specs.Rows.{places}
-use Rattle.dl_rows.specs.Tables.{RowLists, list_at, KeepsLists}
+use Rattle.dl_rows.specs.Tables.{RowLists, list_at, list_of, KeepsLists}
 use Rattle.dl_rows.proofs.TableLemmas.{written_at}
 use Rattle.dl_rules.specs.Lines.{Line, heads_row, uses_row, IsThere}
 use Rattle.dl_rules.specs.Indexes.{HasRules, HasLinks}
@@ -71,3 +71,24 @@ HasLinks-more lines lines' lowers uppers lowers' uppers' kl ku h more = record {
     all_there : (xs ys : List ℕ) → ys ≡ xs → All (IsThere lines) xs → All (IsThere lines') ys
     all_there xs ys e there =
         subst (λ (zs : List ℕ). All (IsThere lines') zs) (sym e) (All-weaker (IsThere lines) (IsThere lines') more xs there)
+
+-- the same lists
+pub HasRules-same : {lines : List (Option Line)} {heads uses heads' uses' : RowLists} → HasRules lines heads uses → heads'.lists ≡ heads.lists
+    → uses'.lists ≡ uses.lists → HasRules lines heads' uses'
+HasRules-same h kh ku = record {
+  by_head = λ n. ap (λ (ls : List (List ℕ)). list_of ls n) kh ∙ h.by_head n;
+  by_use = λ n. ap (λ (ls : List (List ℕ)). list_of ls n) ku ∙ h.by_use n;
+  as_wide = omega (arith, h.as_wide, ap length kh, ap length ku);
+}
+
+pub HasLinks-same : {lines : List (Option Line)} {lowers uppers lowers' uppers' : RowLists} → HasLinks lines lowers uppers → lowers'.lists ≡ lowers.lists
+    → uppers'.lists ≡ uppers.lists → HasLinks lines lowers' uppers'
+HasLinks-same {lines} {lowers} {uppers} {lowers'} {uppers'} h kl ku =
+    let low : (n : ℕ) → list_at lowers' n ≡ list_at lowers n = λ n. ap (λ (ls : List (List ℕ)). list_of ls n) kl in
+    let up : (n : ℕ) → list_at uppers' n ≡ list_at uppers n = λ n. ap (λ (ls : List (List ℕ)). list_of ls n) ku in
+    record {
+      lower_there = λ s. subst (λ (xs : List ℕ). All (IsThere lines) xs) (sym (low s)) (h.lower_there s);
+      upper_there = λ s. subst (λ (xs : List ℕ). All (IsThere lines) xs) (sym (up s)) (h.upper_there s);
+      turned = λ s t m. subst (λ (xs : List ℕ). Contains xs s) (sym (up t)) (h.turned s t (subst (λ (xs : List ℕ). Contains xs t) (low s) m));
+      turned_back = λ s t m. subst (λ (xs : List ℕ). Contains xs t) (sym (low s)) (h.turned_back s t (subst (λ (xs : List ℕ). Contains xs s) (up t) m));
+    }

@@ -1,11 +1,11 @@
 -- How the columns of a list of rules hold it.
-use Rattle.std.specs.Prelude.{◌≡◌, ℕ, ◌<◌, min, Option, None, Some, List, [], ◌∷◌, length, get_or}
+use Rattle.std.specs.Prelude.{◌≡◌, ℕ, ◌<◌, ◌&&◌, min, Bool, Option, None, Some, List, [], ◌∷◌, length, get_or}
 use Rattle.dl_theory.specs.declared.rule.Kind.{Kind}
 use Rattle.dl_theory.specs.declared.rule.Kind.TheVariants as kinds
 use Rattle.dl_rules.specs.declared.slot.Slot.{Slot}
 use Rattle.dl_rules.specs.declared.slot.Slot.TheVariants.{Strict, Defeasible, Defeater, Gone}
 use Rattle.dl_rules.specs.declared.lines.Lines.TheInside.{Inside}
-use Rattle.dl_rows.specs.Listed.{Listed}
+use Rattle.dl_pages.specs.Paged.{PagedItems}
 use Rattle.dl_rules.specs.Lines.{Line}
 
 -- the kind of the rule in a slot
@@ -27,9 +27,17 @@ joined (s ∷ slots) [] bodies = []
 joined (s ∷ slots) (h ∷ heads) [] = []
 joined (s ∷ slots) (h ∷ heads) (b ∷ bodies) = line_of (kind_in s) h b ∷ joined slots heads bodies
 
-abbrev pub lines_of : Inside → Listed (Option Line)
+-- what holds of both at a place
+abbrev pub both : List Bool → List Bool → List Bool
+both [] ys = []
+both (x ∷ xs) [] = []
+both (x ∷ xs) (y ∷ ys) = (x && y) ∷ both xs ys
+
+-- a rule may go where its kind and its body may be written
+abbrev pub lines_of : Inside → PagedItems (Option Line)
 lines_of a = record {
   items = joined a.slots.items a.heads.items a.bodies.items;
+  owned = both a.slots.owned a.bodies.owned;
   spare = min a.slots.spare (min a.heads.spare a.bodies.spare);
 }
 

@@ -47,7 +47,8 @@ pub record Meeting : Type 0 where
   pub lower : ℕ
 
 -- by number: the rules, and none where one has gone; the numbers of those below each, and of those above it; for how many literals
--- there are lists; and the rule or the two rules for which there is memory
+-- there are lists; the rule or the two rules for which there is memory; the number of the rule that can go; and the rules one of which can
+-- stop to stand below the other
 pub record IndexLists : Type 0 where
   pub lines : List (Option Line)
   pub lowers : List (List ℕ)
@@ -55,9 +56,11 @@ pub record IndexLists : Type 0 where
   pub width : ℕ
   pub ready : Option Line
   pub linking : Option Meeting
+  pub taking : Option ℕ
+  pub unlinking : Option Meeting
 
 abbrev pub no_index : IndexLists
-no_index = record { lines = []; lowers = []; uppers = []; width = 0; ready = None; linking = None }
+no_index = record { lines = []; lowers = []; uppers = []; width = 0; ready = None; linking = None; taking = None; unlinking = None }
 
 -- the rules stay, and no list of literals goes
 pub record KeepsRules (old new : IndexLists) : Type 0 where

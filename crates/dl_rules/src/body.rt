@@ -6,7 +6,7 @@ ghost use Rattle.dl_rules.specs.Lines.{once_or};
 
 use dl_base::Memory;
 use dl_rows::Row;
-use std::alloc::Global;
+use std::alloc::{AllocError, Global};
 use std::marker::Model;
 use std::mem::size_of;
 
@@ -70,18 +70,6 @@ impl BodyNumbers {
         Ok(BodyNumbers { form })
     }
 
-    /// An equal body.
-    #[inline(always)]
-    pub fn copy(&self, alloc: Global) -> Result<BodyNumbers, Memory>
-        ensures { IfOk result (λ copy. copy ≡ self.now) }
-    {
-        let form = match &self.form {
-            Form::Plain(numbers) => Form::Plain(numbers.copy()?),
-            Form::Repeating(lists) => Form::Repeating(repeats_of(alloc, lists)?),
-        };
-        Ok(BodyNumbers { form })
-    }
-
     /// The numbers in the order of the body, with repeats.
     pub fn as_slice(&self) -> &[u32]
         ensures { result.now ≡ self.now }
@@ -104,12 +92,27 @@ impl BodyNumbers {
     }
 }
 
+/// An equal body.
+impl Clone for BodyNumbers {
+    ghost is_clone = { λ body copy. copy ≡ body };
+
+    fn clone(&self) -> Result<BodyNumbers, AllocError> {
+        let form = match &self.form {
+            Form::Plain(numbers) => Form::Plain(numbers.clone()?),
+            Form::Repeating(lists) => {
+                Form::Repeating(repeats_of(*Box::allocator(lists), lists)?)
+            }
+        };
+        Ok(BodyNumbers { form })
+    }
+}
+
 /// Equal lists.
-fn repeats_of(alloc: Global, lists: &Repeats) -> Result<Box<Repeats>, Memory>
+fn repeats_of(alloc: Global, lists: &Repeats) -> Result<Box<Repeats>, AllocError>
     ensures body { IfOk result (λ copy. copy.value.body.items ≡ lists.now.body.items) }
     ensures once { IfOk result (λ copy. copy.value.once.items ≡ lists.now.once.items) }
 {
-    let body = lists.body.copy()?;
-    let once = lists.once.copy()?;
+    let body = lists.body.clone()?;
+    let once = lists.once.clone()?;
     Ok(Box::new(alloc, Repeats { body, once })?)
 }

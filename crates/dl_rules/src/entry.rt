@@ -33,4 +33,8 @@ pub(crate) enum Room {
     Nothing,
     ForRule(Entry),
     ForLink(Between),
+    /// So that a rule can go.
+    ForTake(u32),
+    /// So that a rule can stop to stand below another.
+    ForUnlink(Between),
 }

@@ -15,7 +15,7 @@ ghost use Rattle.dl_rules.specs.Lines.{KeepsRules, no_index, heads_row, uses_row
 use crate::enter::{append_both, put_rule, reserve_at, reserve_rule, widen};
 use crate::entry::{Between, Entry, Room};
 use crate::kinds::{can_support, count, passes};
-use crate::leave::{take_links, take_rule};
+use crate::leave::{open_links, open_rule, take_links, take_rule};
 use crate::lines::Lines;
 use crate::link_counts::LinkCounts;
 use crate::rule_lists::RuleLists;
@@ -110,7 +110,7 @@ impl Index {
         })
     }
 
-    /// The same rules under the same numbers, with the same lists. What there is memory for is left out. `Memory` where there is none for the
+    /// The same rules under the same numbers, with the same lists. What is frozen is shared, and what there is memory for is left out. `Memory` where there is none for the
     /// copy.
     pub fn copy(&self) -> Result<Index, Memory>
         ensures lines { IfOk result (λ copy. copy.lines ≡ self.now.lines) }
@@ -173,6 +173,8 @@ impl Index {
         match mem::replace(&mut self.room, Room::Nothing) {
             Room::Nothing => unreachable!(),
             Room::ForLink(_) => unreachable!(),
+            Room::ForTake(_) => unreachable!(),
+            Room::ForUnlink(_) => unreachable!(),
             Room::ForRule(entry) => {
                 self.live += 1;
                 put_rule(&mut self.lines, &mut self.heads, &mut self.uses, entry);
@@ -244,6 +246,8 @@ impl Index {
         match mem::replace(&mut self.room, Room::Nothing) {
             Room::Nothing => unreachable!(),
             Room::ForRule(_) => unreachable!(),
+            Room::ForTake(_) => unreachable!(),
+            Room::ForUnlink(_) => unreachable!(),
             Room::ForLink(link) => {
                 self.lowers.push(link.upper as usize, link.lower);
                 self.uppers.push(link.lower as usize, link.upper);
@@ -251,9 +255,24 @@ impl Index {
         }
     }
 
-    /// A rule goes, and out of what stands below and above the others. Takes no memory.
-    pub fn take(&mut self, number: usize)
+    /// Memory so that a rule can go: what is shared of all that leads to it is copied, page by page.
+    pub fn reserve_take(&mut self, number: usize) -> Result<(), Memory>
         requires { IsThere self.old.lines number }
+        ensures kept { KeepsRules self.old self.new }
+        ensures taking { OnOk result (self.new.taking ≡ Some number) }
+        ensures ready { self.new.ready ≡ None }
+        ensures linking { self.new.linking ≡ None }
+    {
+        self.room = Room::Nothing;
+        open_rule(&mut self.lines, &mut self.heads, &mut self.uses, number)?;
+        open_links(&mut self.lowers, &mut self.uppers, number)?;
+        self.room = Room::ForTake(number as u32);
+        Ok(())
+    }
+
+    /// The rule for which there is memory to go does so, and goes out of what stands below and above the others. Takes no memory.
+    pub fn take(&mut self, number: usize)
+        requires { self.old.taking ≡ Some number }
         ensures lines { self.new.lines ≡ set self.old.lines number None }
         ensures lowers { self.new.lowers ≡ set (map (drop_item number) self.old.lowers) number [] }
         ensures uppers { self.new.uppers ≡ set (map (drop_item number) self.old.uppers) number [] }
@@ -268,10 +287,38 @@ impl Index {
         take_links(&mut self.lowers, &mut self.uppers, rule);
     }
 
-    /// One rule no longer stands below another. Takes no memory.
-    pub fn take_link(&mut self, upper: usize, lower: usize)
+    /// The number of the rule for which there is memory to go.
+    pub fn taking(&self) -> Option<usize>
+        ensures { result ≡ self.now.taking }
+    {
+        match &self.room {
+            Room::ForTake(rule) => Some(*rule as usize),
+            _ => None,
+        }
+    }
+
+    /// Memory so that one rule can stop to stand below another.
+    pub fn reserve_unlink(&mut self, upper: usize, lower: usize) -> Result<(), Memory>
         requires upper { IsThere self.old.lines upper }
         requires lower { IsThere self.old.lines lower }
+        ensures kept { KeepsRules self.old self.new }
+        ensures unlinking { OnOk result (self.new.unlinking ≡ Some (record { upper = upper; lower = lower })) }
+        ensures ready { self.new.ready ≡ None }
+        ensures linking { self.new.linking ≡ None }
+    {
+        self.room = Room::Nothing;
+        self.lowers.open(upper)?;
+        self.uppers.open(lower)?;
+        self.room = Room::ForUnlink(Between {
+            upper: upper as u32,
+            lower: lower as u32,
+        });
+        Ok(())
+    }
+
+    /// One rule no longer stands below another, for which there is memory. Takes none.
+    pub fn take_link(&mut self, upper: usize, lower: usize)
+        requires { self.old.unlinking ≡ Some (record { upper = upper; lower = lower }) }
         ensures lines { self.new.lines ≡ self.old.lines }
         ensures lowers { self.new.lowers ≡ set self.old.lowers upper (drop_item lower (list_of self.old.lowers upper)) }
         ensures uppers { self.new.uppers ≡ set self.old.uppers lower (drop_item upper (list_of self.old.uppers lower)) }
@@ -282,6 +329,24 @@ impl Index {
         self.room = Room::Nothing;
         self.lowers.remove(upper, lower as u32);
         self.uppers.remove(lower, upper as u32);
+    }
+
+    /// From here on a copy shares these rules and the lists that lead to them. Where there is no memory for that, it costs more. What there was
+    /// memory for is forgotten, and nothing else changes.
+    pub fn freeze(&mut self)
+        ensures lines { self.new.lines ≡ self.old.lines }
+        ensures lowers { self.new.lowers ≡ self.old.lowers }
+        ensures uppers { self.new.uppers ≡ self.old.uppers }
+        ensures width { self.new.width ≡ self.old.width }
+        ensures ready { self.new.ready ≡ None }
+        ensures linking { self.new.linking ≡ None }
+    {
+        self.room = Room::Nothing;
+        self.lines.freeze();
+        let _heads = self.heads.freeze();
+        let _uses = self.uses.freeze();
+        let _lowers = self.lowers.freeze();
+        let _uppers = self.uppers.freeze();
     }
 
     /// How many numbers there are, with those that are empty.

@@ -1,6 +1,7 @@
 //! Rules by number.
 
 ghost use Rattle.std.specs.Prelude.{◌≡◌, ◌<◌, ◌^◌, [], ◌∷◌, ◌++◌, OnOk, IfOk, Some, None, option_map, length, get_or, set};
+ghost use Rattle.dl_pages.specs.Paged.{Owns};
 ghost use Rattle.dl_rows.specs.Counting.{each_once};
 ghost use Rattle.dl_rules.specs.Lines.{line_at, IsThere};
 
@@ -9,14 +10,14 @@ use crate::entry::Entry;
 use crate::slot::Slot;
 use dl_base::Memory;
 use dl_names::other;
-use dl_rows::Table;
+use dl_pages::Table;
 use dl_theory::Kind;
 use std::alloc::Global;
 use std::marker::Model;
 use std::mem::size_of;
 
-/// Rules by number. A number whose rule has gone stays empty. What is read most, kinds and heads, stands apart from the bodies. What
-/// stands behind it can be exchanged.
+/// Rules by number. A number whose rule has gone stays empty. What is read most, kinds and heads, stands apart from the bodies. Rules
+/// that are frozen are shared with each copy, page by page, and one that is to go is owned before.
 pub struct Lines {
     slots: Table<Slot>,
     heads: Table<u32>,
@@ -37,11 +38,11 @@ const _: () = prove!(size_of::<Slot>() == 1);
 
 impl Model for Lines {
     ghost use Rattle.std.specs.Prelude.{Option};
-    ghost use Rattle.dl_rows.specs.Listed.{Listed};
+    ghost use Rattle.dl_pages.specs.Paged.{PagedItems};
     ghost use Rattle.dl_rules.specs.Lines.{Line};
     ghost use Rattle.dl_rules.specs.KeptLines.{lines_of, IsKeptLines};
 
-    ghost Value = { Listed (Option Line) };
+    ghost Value = { PagedItems (Option Line) };
 
     ghost view = { lines_of };
 
@@ -65,9 +66,9 @@ impl Lines {
         ensures items { self.new.items ≡ self.old.items }
         ensures room { OnOk result (0 < self.new.spare) }
     {
-        self.slots.reserve()?;
-        self.heads.reserve()?;
-        self.bodies.reserve()?;
+        self.slots.reserve(1)?;
+        self.heads.reserve(1)?;
+        self.bodies.reserve(1)?;
         Ok(())
     }
 
@@ -81,23 +82,42 @@ impl Lines {
         self.bodies.push(entry.body);
     }
 
-    /// A rule goes, and leaves its number empty.
-    // its head stays, since nobody asks for it any more
-    pub fn clear(&mut self, rule: usize)
+    /// The rule with a number can go from here on: it is shared no longer. `Memory` where there is none for a copy of those beside it.
+    pub fn own(&mut self, rule: usize) -> Result<(), Memory>
         requires { rule < length self.old.items }
-        ensures { self.new.items ≡ set self.old.items rule None }
+        ensures items { self.new.items ≡ self.old.items }
+        ensures own { OnOk result (Owns self.new rule) }
     {
-        self.slots.write(rule, Slot::Gone);
-        self.bodies.replace(rule, BodyNumbers::none());
+        self.slots.own(rule)?;
+        self.bodies.own(rule)
     }
 
-    /// The same rules under the same numbers. `Memory` where there is none for them.
+    /// A rule goes, and leaves its number empty. Takes no memory.
+    // its head stays, since nobody asks for it any more
+    pub fn clear(&mut self, rule: usize)
+        requires { Owns self.old rule }
+        ensures { self.new.items ≡ set self.old.items rule None }
+    {
+        let _kind = self.slots.put(rule, Slot::Gone);
+        let _body = self.bodies.put(rule, BodyNumbers::none());
+    }
+
+    /// From here on a copy shares these rules. Where there is no memory for that, it costs more, and nothing else changes.
+    pub fn freeze(&mut self)
+        ensures { self.new.items ≡ self.old.items }
+    {
+        let _slots = self.slots.freeze();
+        let _heads = self.heads.freeze();
+        let _bodies = self.bodies.freeze();
+    }
+
+    /// The same rules under the same numbers. Those that are frozen are shared. `Memory` where there is none for that.
     pub fn copy(&self) -> Result<Lines, Memory>
         ensures { IfOk result (λ copy. copy.items ≡ self.now.items) }
     {
         let slots = self.slots.copy()?;
         let heads = self.heads.copy()?;
-        let bodies = copied_bodies(&self.bodies)?;
+        let bodies = self.bodies.copy()?;
         Ok(Lines {
             slots,
             heads,
@@ -148,7 +168,7 @@ impl Lines {
         requires { IsThere self.now.items rule }
         ensures { IfOk result (λ entry. entry ≡ line_at self.now.items rule) }
     {
-        let body = self.bodies.at(rule).copy(self.alloc())?;
+        let body = self.bodies.at(rule).clone()?;
         Ok(Entry {
             kind: self.kind(rule),
             head: self.head(rule),
@@ -186,17 +206,4 @@ impl Lines {
     pub(crate) fn alloc(&self) -> Global {
         self.heads.alloc()
     }
-}
-
-/// The same bodies.
-fn copied_bodies(bodies: &Table<BodyNumbers>) -> Result<Table<BodyNumbers>, Memory>
-    ensures { IfOk result (λ copy. copy.items ≡ bodies.now.items) }
-{
-    let alloc = bodies.alloc();
-    let mut copy = Table::with_room(alloc, bodies.len())?;
-    for at in 0..bodies.len() {
-        let body = bodies.at(at).copy(alloc)?;
-        copy.push(body);
-    }
-    Ok(copy)
 }

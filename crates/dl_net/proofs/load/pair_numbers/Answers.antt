@@ -22,5 +22,6 @@ loop-at-preserved c =
     λ j. record {
       items = items j;
       ready = c.put.ensures.ready j;
-      placed = (c.put.ensures.placed ∙ step.placed ∙ ap (λ (p : PairLists). p.placed) c.loop-at.invariant) j;
+      leaving = c.put.ensures.leaving j;
+      clearing = c.put.ensures.clearing j;
     }

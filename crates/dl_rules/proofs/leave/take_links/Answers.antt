@@ -1,7 +1,9 @@
-use Rattle.std.proofs.Common.{cond, ap, ◌∙◌}
-use Rattle.dl_rows.specs.Tables.{list_at, drop_item}
+use Rattle.std.proofs.Common.{ℕ, List, cond, sym, ap, subst, ◌∙◌}
+use Rattle.std.specs.Prelude.{All}
+use Rattle.dl_rows.specs.Tables.{list_at, drop_item, IsOpen}
 use Rattle.dl_rows.specs.Counting.{is_in}
 use Rattle.dl_rules.proofs.TakeLemmas.{cleared, in_without}
+use Rattle.dl_rules.proofs.OpenLemmas.{all_without}
 use Rattle.dl_rules.proofs.leave.take_links.Goals as goal
 
 pub returns-clause-lowers : goal.returns-clause-lowers
@@ -21,3 +23,8 @@ returns-clause-uppers c =
     c.clear-2.ensures.lists
     (λ s d. c.take_out.ensures.lists s
     ∙ ap (λ xs. cond (is_in xs s) (drop_item c.args.rule (list_at c.args.uppers.now s)) (list_at c.args.uppers.now s)) c.row.ensures)
+
+pub take_out-requires-2 : goal.take_out-requires-2
+take_out-requires-2 c =
+    subst (λ (xs : List ℕ). All (IsOpen c.args.lowers.now) xs) (sym (c.row-2.ensures ∙ c.take_out.ensures.lists c.args.rule))
+    (all_without (IsOpen c.args.lowers.now) c.args.rule (list_at c.args.uppers.now c.args.rule) _ c.requires.above)

@@ -17,6 +17,6 @@ returns-clause-entries c =
       | in-Apart w ↦
           let is : entries_of (Apart w.in-Apart.columns) ≡ c.args.self.now = ap entries_of (sym w.in-Apart.is) ∙ c.self.view_is in
           ap (λ (i : Inside). (entries_of i.form).entries) w.self-inside-is ∙ w.push-in-Apart.ensures.items
-          ∙ ap (λ (n : ℕ). w.in-Apart.columns.entries.items ++ n ∷ []) w.len-entry.ensures
+          ∙ ap (λ (n : ℕ). w.in-Apart.columns.entries.items ++ n ∷ []) w.len-entry.ensures.items
           ∙ ap (λ (v : EntryLists). v.entries ++ v.count ∷ []) is
     ]

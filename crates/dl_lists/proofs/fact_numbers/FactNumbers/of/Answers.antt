@@ -9,4 +9,4 @@ of-requires c =
 
 pub invariant_of-result : goal.invariant_of-result
 invariant_of-result c =
-    kept_all _ c.args.literals.items c.of.ensures c.requires.within c.requires.once c.requires.narrow tt c.len-live.ensures
+    kept_all _ c.args.literals.items c.of.ensures c.requires.within c.requires.once c.requires.narrow tt c.len-live.ensures.items tt

@@ -23,5 +23,5 @@ invariant_of-self-2 c =
       );
       upper = c.if-pair-ge-EMPTY.false;
       lower = c.if-pair-ge-EMPTY-2.false;
-      places = c.in_ok-reserve_places.ensures.room;
+      rows = c.in_ok-reserve_places.ensures.room;
     })

@@ -7,7 +7,7 @@ pub returns-in-Shared-clause-net : goal.returns-in-Shared-clause-net
 returns-in-Shared-clause-net c = ap (λ h. net_in (tables_in h)) (sym c.in-Shared.is ∙ c.replace.ensures.value)
 
 pub returns-in-Ok-clause-net : goal.returns-in-Ok-clause-net
-returns-in-Ok-clause-net c = ap net_in c.in-Ok.ensures.ok ∙ ap net_in c.freeze.ensures ∙ ap (λ h. net_in (tables_in h)) (sym c.in-Own.is ∙ c.replace.ensures.value)
+returns-in-Ok-clause-net c = ap net_in c.in-Ok.ensures.ok ∙ c.freeze.ensures.net ∙ ap (λ h. net_in (tables_in h)) (sym c.in-Own.is ∙ c.replace.ensures.value)
 
 pub returns-in-Err-clause-net : goal.returns-in-Err-clause-net
-returns-in-Err-clause-net c = ap net_in c.in-Err.ensures.value_returned ∙ ap net_in c.freeze.ensures ∙ ap (λ h. net_in (tables_in h)) (sym c.in-Own.is ∙ c.replace.ensures.value)
+returns-in-Err-clause-net c = ap net_in c.in-Err.ensures.value_returned ∙ c.freeze.ensures.net ∙ ap (λ h. net_in (tables_in h)) (sym c.in-Own.is ∙ c.replace.ensures.value)

@@ -10,9 +10,9 @@ invariant_of-result c =
     (λ i. record {
       names = sym (ap (λ (n : Numbering). n.literals) c.make-3.ensures) i;
       labels = sym c.name_set.ensures i;
-      order = sym c.make.ensures i;
+      order = sym c.make.ensures.items i;
       pairs = sym c.make-2.ensures i;
-      marks = sym c.make-4.ensures i;
+      marks = sym c.make-4.ensures.items i;
       lines = sym c.make-5.ensures i;
     })
     none_loading

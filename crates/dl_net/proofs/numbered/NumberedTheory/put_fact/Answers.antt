@@ -1,4 +1,4 @@
-use Rattle.std.proofs.Common.{◌≡◌, ◌<◌, ◌≤◌, ◌++◌, ◌∷◌, [], ℕ, Bool, true, false, List, length, get_or, refl, sym, ap, subst, ◌∙◌, arith}
+use Rattle.std.proofs.Common.{◌≡◌, ◌<◌, ◌≤◌, ◌++◌, ◌∷◌, [], ℕ, Bool, true, false, List, length, get_or, set, refl, sym, ap, subst, subst₂, ◌∙◌, arith}
 use Rattle.std.specs.Prelude.{Contains}
 use Rattle.dl_lit.specs.declared.literal.Literal.{Literal}
 use Rattle.dl_theory.specs.declared.edit.Edit.TheVariants.{AddFact}
@@ -80,13 +80,34 @@ returns-in_err-reserve c =
     ∙ grown_theory (IsNear (c.args.fact.now ∷ [])) a b marks n.grown n.distinct n.kept c.self.invariant
     ∙ ap (λ (v : NetLists). v.theory) c.self.view_is)
 
-pub write-requires : goal.write-requires
-write-requires c =
+pub own-requires-clause-within : goal.own-requires-clause-within
+own-requires-clause-within c =
     let at = number_within c.number_fact.new.names.literals c.args.fact.now c.number_fact.ensures.distinct c.in_ok-number.ensures.there in
     omega (arith, at.0, c.in_ok-number.ensures.number, c.in_ok-number.ensures.room)
 
+pub invariant_of-self-in_err-own : goal.invariant_of-self-in_err-own
+invariant_of-self-in_err-own c =
+    let n = c.number_fact.ensures in
+    let a : LoadedLists = lists_of c.self.inside in
+    let b : List Literal = c.number_fact.new.names.literals in
+    let marks : List Bool = c.number_fact.new.marks.items in
+    subst₂ (λ (ns : List ℕ) (ms : List Bool). IsLoading (record (grown a b ms) { order = ns })) (sym c.reserve.ensures.items) (sym c.own.ensures.items)
+    (grown_loading (IsNear (c.args.fact.now ∷ [])) a b marks n.grown n.distinct n.kept c.self.invariant)
+
+pub returns-in_err-own : goal.returns-in_err-own
+returns-in_err-own c =
+    let n = c.number_fact.ensures in
+    let a : LoadedLists = lists_of c.self.inside in
+    let b : List Literal = c.number_fact.new.names.literals in
+    let marks : List Bool = c.number_fact.new.marks.items in
+    memory_stops c.args.self.now.theory (theory_in (record (grown a b c.own.new.self.items) { order = c.reserve.new.self.items })) (AddFact c.args.fact.now)
+    c.from_residual-in_err-own.result c.from_residual-in_err-own.ensures.1
+    ((λ i. theory_in (record (grown a b (c.own.ensures.items i)) { order = c.reserve.ensures.items i }))
+    ∙ grown_theory (IsNear (c.args.fact.now ∷ [])) a b marks n.grown n.distinct n.kept c.self.invariant
+    ∙ ap (λ (v : NetLists). v.theory) c.self.view_is)
+
 -- the literal is no fact, and there is room for one
-accepted : (c : goal.After-write) → IsAccepted (theory_in (grown (lists_of c.self.inside) c.number_fact.new.names.literals c.number_fact.new.marks.items)) (AddFact c.args.fact.now)
+accepted : (c : goal.After-put-off) → IsAccepted (theory_in (grown (lists_of c.self.inside) c.number_fact.new.names.literals c.number_fact.new.marks.items)) (AddFact c.args.fact.now)
 accepted c =
     let n = c.number_fact.ensures in
     let h = c.self.invariant in
@@ -116,8 +137,8 @@ invariant_of-self-2 c =
     let b : List Literal = c.number_fact.new.names.literals in
     let marks : List Bool = c.number_fact.new.marks.items in
     fact_loading (grown a b marks) (grown_loading (IsNear (c.args.fact.now ∷ [])) a b marks n.grown n.distinct n.kept c.self.invariant) n.distinct
-    c.args.fact.now c.in_ok-number.ensures.there c.in_ok-number.number c.in_ok-number.ensures.number c.push.new.self.items c.write.new.self.items
-    (c.push.ensures.items ∙ ap (λ (ns : List ℕ). ns ++ c.in_ok-number.number ∷ []) c.reserve.ensures.items) c.write.ensures.items c.in_ok-number.ensures.room
+    c.args.fact.now c.in_ok-number.ensures.there c.in_ok-number.number c.in_ok-number.ensures.number c.push.new.self.items c.put-off.new.self.items
+    (c.push.ensures.items ∙ ap (λ (ns : List ℕ). ns ++ c.in_ok-number.number ∷ []) c.reserve.ensures.items) (c.put-off.ensures.items ∙ ap (λ (ms : List Bool). set ms c.in_ok-number.number true) c.own.ensures.items) c.in_ok-number.ensures.room
     (accepted c)
 
 pub returns : goal.returns
@@ -131,7 +152,7 @@ returns c =
     grown_theory P a b marks n.grown n.distinct n.kept c.self.invariant ∙ ap (λ (v : NetLists). v.theory) c.self.view_is in (
       subst (λ (T : TheoryLists). IsAccepted T (AddFact c.args.fact.now)) same (accepted c),
       fact_theory (grown a b marks) (grown_loading P a b marks n.grown n.distinct n.kept c.self.invariant) n.distinct
-          c.args.fact.now c.in_ok-number.ensures.there c.in_ok-number.number c.in_ok-number.ensures.number c.push.new.self.items c.write.new.self.items
-          (c.push.ensures.items ∙ ap (λ (ns : List ℕ). ns ++ c.in_ok-number.number ∷ []) c.reserve.ensures.items) c.write.ensures.items
+          c.args.fact.now c.in_ok-number.ensures.there c.in_ok-number.number c.in_ok-number.ensures.number c.push.new.self.items c.put-off.new.self.items
+          (c.push.ensures.items ∙ ap (λ (ns : List ℕ). ns ++ c.in_ok-number.number ∷ []) c.reserve.ensures.items) (c.put-off.ensures.items ∙ ap (λ (ms : List Bool). set ms c.in_ok-number.number true) c.own.ensures.items)
           ∙ ap (λ (T : TheoryLists). after_edit T (AddFact c.args.fact.now)) same,
     )

@@ -18,8 +18,8 @@ returns-clause-kept c =
       names = (c.in_ok-names.ensures i).literals;
       labels = (c.in_ok-labels.ensures i).labels;
       facts = c.in_ok-facts.ensures.items i;
-      pairs = c.in_ok-pairs.ensures.items i;
-      marks = c.in_ok-marks.ensures.items i;
+      pairs = (c.in_ok-pairs.ensures i).items;
+      marks = c.in_ok-marks.ensures i;
       index = c.in_ok-index.index;
     } in
     record {
@@ -35,7 +35,7 @@ returns-clause-net c =
       names = (c.in_ok-names.ensures i).literals;
       labels = (c.in_ok-labels.ensures i).labels;
       facts = c.in_ok-facts.ensures.items i;
-      pairs = c.in_ok-pairs.ensures.items i;
-      marks = c.in_ok-marks.ensures.items i;
+      pairs = (c.in_ok-pairs.ensures i).items;
+      marks = c.in_ok-marks.ensures i;
       index = c.in_ok-index.index;
     }) ∙ net_anew old c.in_ok-index.index c.in_ok-index.ensures.lines

@@ -11,5 +11,5 @@ forget_link-requires c =
 pub returns-in-Some-clause-keeps : goal.returns-in-Some-clause-keeps
 returns-in-Some-clause-keeps c =
     let old : Tables = c.args.self.now in
-    pair_forgotten old old c.forget_link.new.self old.pairs.ready old.index old.order c.requires refl (keeps_rules old.index) c.forget_link.ensures.frame
+    pair_forgotten old old c.forget_link.new.self old.pairs old.index old.order c.requires refl refl (keeps_rules old.index) c.forget_link.ensures.frame
     c.forget_link.ensures.order

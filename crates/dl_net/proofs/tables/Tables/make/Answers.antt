@@ -17,7 +17,7 @@ returns-clause-kept c =
       labels = (c.make-2.ensures i).labels;
       facts = c.make-3.ensures.items i;
       pairs = (c.make-4.ensures i).items;
-      marks = c.make-5.ensures i;
+      marks = c.make-5.ensures.items i;
       index = c.make-6.ensures i;
     } in
     record { tables = subst (λ (t : TableLists). AreTables t) (sym none) none_tables; order = tt }

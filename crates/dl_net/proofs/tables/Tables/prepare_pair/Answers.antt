@@ -1,4 +1,4 @@
-use Rattle.std.proofs.Common.{◌<◌, ◌≤◌, length, sym, ap, subst, arith}
+use Rattle.std.proofs.Common.{◌<◌, ◌≤◌, length, refl, sym, ap, subst, arith}
 use Rattle.std.proofs.lemmas.Result.{err_from_is_err_and}
 use Rattle.dl_theory.specs.declared.rule.Pair.{Pair}
 use Rattle.dl_theory.specs.declared.edit.Edit.TheVariants.{AddPair}
@@ -9,6 +9,7 @@ use Rattle.dl_graph.specs.Tables.{AreTables}
 use Rattle.dl_net.specs.declared.tables.Tables.{Tables}
 use Rattle.dl_net.specs.Kept.{lists_of, theory_in}
 use Rattle.dl_net.proofs.PairTables.{accepted, full, keeps_rules, pair_forgotten, pair_prepared, room_frame, room_kept}
+use Rattle.dl_lists.specs.Pairs.{no_pairs}
 use Rattle.dl_net.proofs.tables.Tables.prepare_pair.Goals as goal
 
 pub returns-in_err-add_to_order-clause-answered : goal.returns-in_err-add_to_order-clause-answered
@@ -29,7 +30,7 @@ returns-then-live-ge-LIMIT-clause-answered c =
 pub returns-then-live-ge-LIMIT-clause-keeps : goal.returns-then-live-ge-LIMIT-clause-keeps
 returns-then-live-ge-LIMIT-clause-keeps c =
     let old : Tables = c.args.self.now in
-    pair_forgotten old c.add_to_order.new.self c.forget_link.new.self old.pairs.ready old.index c.add_to_order.new.self.order c.requires.kept c.add_to_order.ensures.frame
+    pair_forgotten old c.add_to_order.new.self c.forget_link.new.self old.pairs old.index c.add_to_order.new.self.order c.requires.kept refl c.add_to_order.ensures.frame
     (keeps_rules old.index) c.forget_link.ensures.frame c.forget_link.ensures.order
 
 pub make_room-requires-clause-kept : goal.make_room-requires-clause-kept
@@ -40,7 +41,7 @@ returns-in-Err-make_room-clause-keeps c =
     let old : Tables = c.args.self.now in
     let first : Tables = c.add_to_order.new.self in
     let mid : Tables = c.make_room.new.self in
-    pair_forgotten old mid c.forget_link-in-Err-make_room.new.self mid.pairs.ready mid.index first.order c.requires.kept
+    pair_forgotten old mid c.forget_link-in-Err-make_room.new.self (record no_pairs { items = old.pairs.items; ready = mid.pairs.ready }) mid.index first.order c.requires.kept refl
     (room_frame old first c.add_to_order.ensures.frame mid c.make_room.ensures.frame)
     (room_kept old first c.add_to_order.ensures.frame mid.index c.make_room.ensures.kept)
     c.forget_link-in-Err-make_room.ensures.frame c.forget_link-in-Err-make_room.ensures.order

@@ -1,10 +1,8 @@
-use Rattle.std.proofs.Common.{◌≡◌, map, take, length}
-use Rattle.std.specs.Vec.{vec_len, vec_capacity}
+use Rattle.std.proofs.Common.{◌≡◌, ◌+◌, ◌≤◌, map, take, length}
 use Rattle.dl_rows.proofs.open_rows.OpenRows.of.Given as goal
 
 abbrev pub invariant-loop-number : goal.invariant-loop-number
 invariant-loop-number l = record {
   lists : map (λ v. v.items) l.rows.items ≡ take l.number l.packed;
-  filled : vec_len l.rows ≡ l.number;
-  room : vec_capacity l.rows ≡ length l.packed;
+  room : length l.packed ≤ l.rows.spare + l.number;
 }

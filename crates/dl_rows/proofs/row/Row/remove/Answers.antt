@@ -7,8 +7,8 @@ use Rattle.dl_rows.specs.KeptRow.{row_of}
 use Rattle.dl_rows.specs.declared.row.Numbers.{Numbers}
 use Rattle.dl_rows.proofs.row.Row.remove.Goals as goal
 
-pub returns-in-Many : goal.returns-in-Many
-returns-in-Many c =
+pub returns-in-Many-clause-items : goal.returns-in-Many-clause-items
+returns-in-Many-clause-items c =
     let left : c.retain.new.self.items ≡ filter (λ x. not (x == c.args.item)) c.deref_mut.result.now.items =
     filter_same _ (λ x. not (x == c.args.item)) _ (λ x b f' k. search rules) _ _ c.retain.ensures.filtered in
     let was : c.deref_mut.result.now.items ≡ c.args.self.now.items =

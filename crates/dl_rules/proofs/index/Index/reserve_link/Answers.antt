@@ -1,12 +1,7 @@
-use Rattle.std.proofs.Common.{◌≡◌, length, subst, arith, refl}
-use Rattle.dl_rules.specs.Lines.{IndexLists, KeepsRules}
-use Rattle.dl_rules.specs.KeptIndex.{index_of}
-use Rattle.dl_rows.specs.Tables.{RowLists, KeepsLists}
-use Rattle.dl_rules.specs.declared.index.Index.TheInside.{Inside}
-use Rattle.dl_rules.specs.declared.entry.Room.{Room}
+use Rattle.std.proofs.Common.{arith}
 use Rattle.dl_rules.specs.declared.entry.Room.TheVariants.{Nothing, ForLink}
 use Rattle.dl_rows.proofs.Keeping.{KeepsLists-refl}
-use Rattle.dl_rules.proofs.NumberLemmas.{numbered_kept}
+use Rattle.dl_rules.proofs.OpenLemmas.{only_wider}
 use Rattle.dl_rules.proofs.RuleLemmas.{HasLinks-more}
 use Rattle.dl_rules.proofs.ThereLemmas.{there_in, there_within}
 use Rattle.dl_rules.proofs.index.Index.reserve_link.Goals as goal
@@ -40,18 +35,6 @@ invariant_of-self-in_err-reserve_at-2 c = record {
   live = c.self.invariant.live;
   room = tt;
 }
-
--- where only the tables of links have become longer
-only_wider : (a : Inside) (lowers uppers : RowLists) (room : Room) → KeepsLists a.lowers lowers → KeepsLists a.uppers uppers → (v : IndexLists) → index_of a ≡ v
-    → KeepsRules v (index_of (record a { lowers = lowers; uppers = uppers; room = room }))
-only_wider a lowers uppers room kl ku v is =
-    subst (λ (w : IndexLists). KeepsRules w (index_of (record a { lowers = lowers; uppers = uppers; room = room }))) is
-    (record {
-      lines = refl;
-      lowers = numbered_kept (length a.lines.items) a.lowers lowers kl;
-      uppers = numbered_kept (length a.lines.items) a.uppers uppers ku;
-      wider = omega arith;
-    })
 
 pub returns-in_err-reserve_at-clause-kept : goal.returns-in_err-reserve_at-clause-kept
 returns-in_err-reserve_at-clause-kept c =

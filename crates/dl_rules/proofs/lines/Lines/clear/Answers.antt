@@ -1,15 +1,21 @@
-use Rattle.std.proofs.Common.{ℕ, List, set, ap, ◌∙◌}
-use Rattle.dl_rules.proofs.LineLemmas.{in_slots, in_bodies, items_gone}
+use Rattle.std.proofs.Common.{ℕ, Option, List, false, get_or, set, ap, ◌∙◌}
+use Rattle.dl_pages.specs.Paged.{PagedItems}
+use Rattle.dl_rules.specs.Lines.{Line}
+use Rattle.dl_rules.proofs.LineLemmas.{items_gone, both_parts}
 use Rattle.dl_rules.proofs.lines.Lines.clear.Goals as goal
 
-pub write-requires : goal.write-requires
-write-requires c = in_slots c.self.inside c.self.invariant c.args.self.now c.self.view_is c.args.rule c.requires
+pub put-kind-requires : goal.put-kind-requires
+put-kind-requires c =
+    (both_parts c.self.inside.slots.owned c.self.inside.bodies.owned c.args.rule
+    (ap (λ (v : PagedItems (Option Line)). get_or v.owned c.args.rule false) c.self.view_is ∙ c.requires)).0
 
-pub replace-requires : goal.replace-requires
-replace-requires c = in_bodies c.self.inside c.self.invariant c.args.self.now c.self.view_is c.args.rule c.requires
+pub put-body-requires : goal.put-body-requires
+put-body-requires c =
+    (both_parts c.self.inside.slots.owned c.self.inside.bodies.owned c.args.rule
+    (ap (λ (v : PagedItems (Option Line)). get_or v.owned c.args.rule false) c.self.view_is ∙ c.requires)).1
 
 pub returns : goal.returns
 returns c =
     items_gone c.self.inside c.self.invariant c.args.self.now c.self.view_is c.args.rule
-    c.write.new.self.items c.replace.new.self.items c.write.ensures.items
-    (c.replace.ensures.items ∙ ap (λ (b : List ℕ). set c.self.inside.bodies.items c.args.rule b) c.none.ensures)
+    c.put-kind.new.self.items c.put-body.new.self.items c.put-kind.ensures.items
+    (c.put-body.ensures.items ∙ ap (λ (b : List ℕ). set c.self.inside.bodies.items c.args.rule b) c.none.ensures)

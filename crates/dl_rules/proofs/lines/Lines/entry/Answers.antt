@@ -10,5 +10,5 @@ at-requires c =
 pub returns : goal.returns
 returns c =
     let within : c.args.rule < length c.args.self.now.items = there_within c.args.self.now.items c.args.rule c.requires in
-    let body = c.in_ok-body.ensures ∙ body_is c.self.inside c.self.invariant c.args.self.now c.self.view_is c.args.rule within c.at.result.now c.at.ensures in
+    let body = c.in_ok-body.ensures.cases ∙ body_is c.self.inside c.self.invariant c.args.self.now c.self.view_is c.args.rule within c.at.result.now c.at.ensures in
     λ i. record { kind = c.kind.ensures i; head = c.head.ensures i; body = body i }
