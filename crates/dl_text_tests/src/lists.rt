@@ -1,10 +1,11 @@
 //! Labels, facts and pairs by numbers that never move.
 
-ghost use Rattle.std.specs.Prelude.{◌≡◌, ◌<◌, None, true};
+ghost use Rattle.std.specs.Prelude.{◌≡◌, ◌<◌, None, IfSome, IfNone, Contains};
+ghost use Rattle.dl_rows.specs.There.{there};
 
 use dl_lists::{FactNumbers, PairNumbers, RuleLabels};
 use dl_lit::{Name, name_set};
-use dl_rows::Table;
+use dl_pages::Table;
 use dl_sup::Link;
 use dl_theory::insert_label;
 use std::alloc::Global;
@@ -151,26 +152,38 @@ fn many_labels_after_a_freeze_are_joined_with_those_before(rt: HostRuntime) {
     assert!(rt; labels.find(&absent).is_none());
 }
 
+/// The number of the fact of a literal, looked for among all.
+fn number_of(facts: &FactNumbers, literal: usize) -> Option<usize>
+    ensures there { IfSome result (λ _. Contains (there facts.now.items) literal) }
+    ensures absent { IfNone result (¬ Contains (there facts.now.items) literal) }
+{
+    for number in 0..facts.len() {
+        if facts.at(number) == Some(literal) {
+            return Some(number);
+        }
+    }
+    None
+}
+
 /// A literal becomes a fact, where it is none; says its number.
 fn fact_of(rt: &impl Abort, facts: &mut FactNumbers, literal: usize) -> usize
     requires { literal < 100 }
-    ensures { facts.new.placed ≡ true }
 {
-    facts.prepare_places().expect(rt, "room");
-    facts.reserve(100).expect(rt, "room");
-    match facts.place(literal) {
+    match number_of(facts, literal) {
         Some(number) => number,
         None => {
+            facts.prepare(literal, 100).expect(rt, "room");
             facts.put(literal);
             facts.len() - 1
         }
     }
 }
 
-/// A fact goes, where there is one with the number.
-fn drop_fact(facts: &mut FactNumbers, number: usize) {
-    if number < facts.len() {
-        facts.drop_at(number);
+/// The fact of a literal goes, where it is one.
+fn drop_fact(rt: &impl Abort, facts: &mut FactNumbers, literal: usize) {
+    if let Some(_number) = number_of(facts, literal) {
+        facts.prepare_drop(literal).expect(rt, "room");
+        facts.drop_fact(literal);
     }
 }
 
@@ -181,19 +194,23 @@ fn a_fact_that_comes_again_has_another_number(rt: HostRuntime) {
     assert!(rt; fact_of(&rt, &mut facts, 3) == 1);
     assert!(rt; fact_of(&rt, &mut facts, 7) == 0);
     assert!(rt; facts.len() == 2);
-    drop_fact(&mut facts, 0);
+    drop_fact(&rt, &mut facts, 7);
+    assert!(rt; facts.at(0).is_none());
     assert!(rt; facts.live() == 1);
     assert!(rt; fact_of(&rt, &mut facts, 7) == 2);
     expect_facts(&rt, &facts);
-    let copy = facts.copy().expect(&rt, "room");
+    let mut copy = facts.copy().expect(&rt, "room");
     expect_facts(&rt, &copy);
-    assert!(rt; copy.place(7) == Some(2));
+    assert!(rt; number_of(&copy, 7) == Some(2));
+    drop_fact(&rt, &mut copy, 7);
+    assert!(rt; copy.at(2).is_none());
+    assert!(rt; copy.live() == 1);
 }
 
 #[test]
 fn literals_are_taken_over_as_facts(rt: HostRuntime) {
     let mut literals = Table::make(rt.alloc());
-    literals.reserve().expect(&rt, "room");
+    literals.reserve(1).expect(&rt, "room");
     literals.push(7);
     let mut facts = FactNumbers::of(literals, 8);
     assert!(rt; facts.live() == 1);
@@ -219,24 +236,23 @@ fn pair_of(rt: &impl Abort, pairs: &mut PairNumbers, upper: usize, lower: usize)
     number
 }
 
-/// The number of a pair, found by its rules.
-fn place_of(rt: &impl Abort, pairs: &mut PairNumbers, upper: usize, lower: usize) -> Option<usize>
-    ensures { pairs.new.placed ≡ true }
-{
-    pairs.prepare_places().expect(rt, "room");
-    pairs.place(Link { upper, lower })
+/// Whether a pair is there, found by its rules.
+fn has_pair(rt: &impl Abort, pairs: &mut PairNumbers, upper: usize, lower: usize) -> bool {
+    let found = pairs.prepare_drop(Link { upper, lower });
+    found.expect(rt, "room")
 }
 
-/// A pair goes, where there is one with the number.
-fn drop_pair(pairs: &mut PairNumbers, number: usize) {
-    if number < pairs.len() {
-        pairs.drop_at(number);
+/// A pair goes, where it is there.
+fn drop_pair(rt: &impl Abort, pairs: &mut PairNumbers, upper: usize, lower: usize) {
+    let pair = Link { upper, lower };
+    if pairs.prepare_drop(pair).expect(rt, "room") {
+        pairs.drop_pair(pair);
     }
 }
 
 /// All pairs of a rule go.
 fn drop_rule(rt: &impl Abort, pairs: &mut PairNumbers, rule: usize) {
-    pairs.prepare_places().expect(rt, "room");
+    pairs.prepare_drop_rule(rule).expect(rt, "room");
     pairs.drop_rule(rule);
 }
 
@@ -245,7 +261,7 @@ fn all_pairs_of_a_rule_go(rt: HostRuntime) {
     let mut pairs = PairNumbers::make(rt.alloc());
     assert!(rt; pair_of(&rt, &mut pairs, 1, 2) == 0);
     assert!(rt; pair_of(&rt, &mut pairs, 2, 3) == 1);
-    pairs.prepare_places().expect(&rt, "room");
+    assert!(rt; has_pair(&rt, &mut pairs, 2, 3));
     assert!(rt; pair_of(&rt, &mut pairs, 3, 1) == 2);
     assert!(rt; pair_of(&rt, &mut pairs, 2, 2) == 3);
     drop_rule(&rt, &mut pairs, 2);
@@ -255,8 +271,8 @@ fn all_pairs_of_a_rule_go(rt: HostRuntime) {
     assert!(rt; pairs.at(1).is_none());
     assert!(rt; pairs.at(2) == Some(Link { upper: 3, lower: 1 }));
     assert!(rt; pairs.at(3).is_none());
-    assert!(rt; place_of(&rt, &mut pairs, 3, 1) == Some(2));
-    assert!(rt; place_of(&rt, &mut pairs, 1, 3).is_none());
+    assert!(rt; has_pair(&rt, &mut pairs, 3, 1));
+    assert!(rt; !has_pair(&rt, &mut pairs, 1, 3));
     drop_rule(&rt, &mut pairs, 9);
     assert!(rt; pairs.live() == 1);
 }
@@ -265,21 +281,22 @@ fn all_pairs_of_a_rule_go(rt: HostRuntime) {
 fn a_pair_that_comes_again_has_another_number(rt: HostRuntime) {
     let mut pairs = PairNumbers::make(rt.alloc());
     assert!(rt; pair_of(&rt, &mut pairs, 1, 2) == 0);
-    pairs.prepare_places().expect(&rt, "room");
+    assert!(rt; has_pair(&rt, &mut pairs, 1, 2));
     assert!(rt; pairs.len() == 1);
-    drop_pair(&mut pairs, 0);
-    assert!(rt; place_of(&rt, &mut pairs, 1, 2).is_none());
+    drop_pair(&rt, &mut pairs, 1, 2);
+    assert!(rt; pairs.at(0).is_none());
+    assert!(rt; !has_pair(&rt, &mut pairs, 1, 2));
     assert!(rt; pair_of(&rt, &mut pairs, 1, 2) == 1);
-    assert!(rt; place_of(&rt, &mut pairs, 1, 2) == Some(1));
+    assert!(rt; has_pair(&rt, &mut pairs, 1, 2));
     pairs
         .prepare(Link { upper: 4, lower: 5 })
         .expect(&rt, "room");
     pairs.forget();
-    assert!(rt; place_of(&rt, &mut pairs, 4, 5).is_none());
-    let copy = pairs.copy().expect(&rt, "room");
+    assert!(rt; !has_pair(&rt, &mut pairs, 4, 5));
+    let mut copy = pairs.copy().expect(&rt, "room");
     assert!(rt; copy.len() == 2);
     assert!(rt; copy.at(1) == Some(Link { upper: 1, lower: 2 }));
-    assert!(rt; copy.place(Link { upper: 1, lower: 2 }) == Some(1));
+    assert!(rt; has_pair(&rt, &mut copy, 1, 2));
 }
 
 #[test]
@@ -289,7 +306,7 @@ fn pairs_are_taken_over(rt: HostRuntime) {
     let mut pairs = PairNumbers::of(rt.alloc(), &[first, second]).expect(&rt, "room");
     assert!(rt; pairs.live() == 2);
     assert!(rt; pairs.at(0) == Some(first));
-    assert!(rt; place_of(&rt, &mut pairs, 2, 3) == Some(1));
+    assert!(rt; has_pair(&rt, &mut pairs, 2, 3));
     drop_rule(&rt, &mut pairs, 1);
     assert!(rt; pairs.at(0).is_none());
     assert!(rt; pairs.at(1) == Some(second));
@@ -309,5 +326,73 @@ fn a_rule_has_a_number_of_32_bits(rt: HostRuntime) {
         (1, 4_294_967_294, true),
     ] {
         assert!(rt; pairs.prepare(Link { upper, lower }).is_ok() == fits);
+    }
+}
+
+#[test]
+fn a_fact_that_goes_stays_in_a_copy(rt: HostRuntime) {
+    let mut facts = FactNumbers::make(rt.alloc());
+    for (literal, number) in [(7, 0), (3, 1), (5, 2)] {
+        assert!(rt; fact_of(&rt, &mut facts, literal) == number);
+    }
+    facts.freeze();
+    let copy = facts.copy().expect(&rt, "room");
+    drop_fact(&rt, &mut facts, 7);
+    assert!(rt; fact_of(&rt, &mut facts, 9) == 3);
+    facts.freeze();
+    // its places are shared now, and each of the two finds its facts by them
+    let mut again = facts.copy().expect(&rt, "room");
+    drop_fact(&rt, &mut facts, 3);
+    drop_fact(&rt, &mut again, 9);
+    assert!(rt; fact_of(&rt, &mut again, 7) == 4);
+    expect_numbers(&rt, &copy, &[Some(7), Some(3), Some(5)]);
+    expect_numbers(&rt, &facts, &[None, None, Some(5), Some(9)]);
+    expect_numbers(&rt, &again, &[None, Some(3), Some(5), None, Some(7)]);
+    assert!(rt; copy.live() == 3);
+    assert!(rt; facts.live() == 2);
+    assert!(rt; again.live() == 3);
+}
+
+/// The literals of the facts by number are these.
+fn expect_numbers(rt: &impl Abort, facts: &FactNumbers, literals: &[Option<usize>]) {
+    assert!(rt; facts.len() == literals.len());
+    for number in 0..literals.len() {
+        assert!(rt; facts.at(number) == literals[number]);
+    }
+}
+
+#[test]
+fn a_pair_that_goes_stays_in_a_copy(rt: HostRuntime) {
+    let first = Link { upper: 1, lower: 2 };
+    let second = Link { upper: 2, lower: 3 };
+    let third = Link { upper: 4, lower: 5 };
+    let mut pairs = PairNumbers::of(rt.alloc(), &[first, second]).expect(&rt, "room");
+    pairs.freeze();
+    let mut copy = pairs.copy().expect(&rt, "room");
+    drop_pair(&rt, &mut pairs, 1, 2);
+    assert!(rt; pair_of(&rt, &mut pairs, 4, 5) == 2);
+    pairs.freeze();
+    // where the pairs of a rule are is shared now, and each of the two finds its pairs by it
+    let mut again = pairs.copy().expect(&rt, "room");
+    drop_pair(&rt, &mut pairs, 4, 5);
+    drop_rule(&rt, &mut again, 2);
+    expect_pairs(&rt, &copy, &[Some(first), Some(second)]);
+    expect_pairs(&rt, &pairs, &[None, Some(second), None]);
+    expect_pairs(&rt, &again, &[None, None, Some(third)]);
+    assert!(rt; copy.live() == 2);
+    assert!(rt; pairs.live() == 1);
+    assert!(rt; again.live() == 1);
+    assert!(rt; has_pair(&rt, &mut copy, 1, 2));
+    assert!(rt; !has_pair(&rt, &mut copy, 4, 5));
+    assert!(rt; has_pair(&rt, &mut pairs, 2, 3));
+    assert!(rt; !has_pair(&rt, &mut again, 2, 3));
+    assert!(rt; has_pair(&rt, &mut again, 4, 5));
+}
+
+/// The pairs by number are these.
+fn expect_pairs(rt: &impl Abort, pairs: &PairNumbers, links: &[Option<Link>]) {
+    assert!(rt; pairs.len() == links.len());
+    for number in 0..links.len() {
+        assert!(rt; pairs.at(number) == links[number]);
     }
 }

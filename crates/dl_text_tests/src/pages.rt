@@ -1,8 +1,8 @@
-//! Lists in pages: what is shared stays as it is while the list goes on.
+//! Lists in pages, and tables: what is shared stays as it is while the list goes on.
 
-ghost use Rattle.std.specs.Prelude.{◌≡◌, length};
+ghost use Rattle.std.specs.Prelude.{◌≡◌, ◌<◌, length};
 
-use dl_pages::Paged;
+use dl_pages::{Paged, Table};
 use std::alloc::Global;
 use std::process::Abort;
 
@@ -105,4 +105,73 @@ fn room_that_no_memory_has_is_refused(rt: HostRuntime) {
     let mut list = numbers(&rt, rt.alloc(), 1);
     assert!(rt; list.reserve(usize::MAX).is_err());
     assert!(rt; *list.get(0) == 0);
+}
+
+/// The numbers below a bound, in a table.
+fn table(rt: &impl Abort, alloc: Global, bound: u32) -> Table<u32>
+    ensures { length result.items ≡ bound }
+{
+    let mut list = Table::make(alloc);
+    for number in 0..bound {
+        list.reserve(1).expect(rt, "room");
+        list.push(number);
+    }
+    list
+}
+
+/// A value is written at a place of a table.
+fn write(rt: &impl Abort, list: &mut Table<u32>, at: usize, value: u32) {
+    assert!(rt; at < list.len());
+    list.own(at).expect(rt, "room");
+    let _old = list.put(at, value);
+}
+
+/// A table of so many elements is copied. Then a value that it has not is written in each of its pages, and one comes at its end: the copy has what
+/// the table had.
+fn copy_stays(rt: &impl Abort, list: &mut Table<u32>, len: usize, value: u32)
+    requires { len < 1000 }
+{
+    let copy = list.copy().expect(rt, "room");
+    for at in [0, 300, 599] {
+        write(rt, list, at, value);
+    }
+    list.reserve(1).expect(rt, "room");
+    list.push(value);
+    assert!(rt; copy.len() == len);
+    assert!(rt; list.len() == len + 1);
+    for at in 0..len {
+        let is_written = at == 0 || at == 300 || at == 599;
+        assert!(rt; (*list.at(at) == value) == is_written);
+        assert!(rt; (*list.at(at) == *copy.at(at)) != is_written);
+    }
+    assert!(rt; *list.at(len) == value);
+}
+
+#[test]
+fn a_copy_of_a_table_stays_however_it_stands(rt: HostRuntime) {
+    let mut list = table(&rt, rt.alloc(), 600);
+    copy_stays(&rt, &mut list, 600, 7000);
+    list.freeze().expect(&rt, "room");
+    copy_stays(&rt, &mut list, 601, 8000);
+    list.freeze().expect(&rt, "room");
+    copy_stays(&rt, &mut list, 602, 9000);
+}
+
+#[test]
+fn a_copy_of_a_frozen_table_keeps_its_elements(rt: HostRuntime) {
+    let mut list = table(&rt, rt.alloc(), 600);
+    list.freeze().expect(&rt, "room");
+    let copy = list.copy().expect(&rt, "room");
+    let mut wider = list.copy().expect(&rt, "room");
+    write(&rt, &mut list, 300, 7);
+    wider.widen(700, 5).expect(&rt, "room");
+    assert!(rt; wider.len() == 700);
+    assert!(rt; *wider.at(599) == 599);
+    assert!(rt; *wider.at(699) == 5);
+    drop(list);
+    drop(wider);
+    assert!(rt; copy.len() == 600);
+    for at in 0..copy.len() {
+        assert!(rt; *copy.at(at) as usize == at);
+    }
 }
