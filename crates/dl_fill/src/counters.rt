@@ -144,12 +144,37 @@ impl Counters {
         node as u32
     }
 
-    /// One hit on each of these nodes, in order. First all their cells count down, and then all pushes are made: where a push is written
-    /// hangs on what the cells before it say, so that hits that did both would wait for one cell after the other. The looks at the cells
-    /// hang on nothing, and their waits overlap.
+    /// One hit on each of these nodes, in order.
     // Not inlined: each wire of a run has a place for the call, which comes once a block.
     #[inline(never)]
     pub(crate) fn hit_all(&mut self, nodes: &[u32])
+        requires few { length nodes.now ≤ 64 }
+        requires inside { AreNodes self.old nodes.now }
+        ensures { self.new ≡ fold hit self.old nodes.now }
+    {
+        match nodes {
+            [node] => self.hit_one(*node),
+            _ => self.hit_block(nodes),
+        }
+    }
+
+    /// One hit on a node.
+    // where each node leads to one other, as along a chain, there is never more than this one to make
+    #[inline(always)]
+    fn hit_one(&mut self, node: u32)
+        requires { node < length self.old.need }
+        ensures { self.new ≡ hit self.old node }
+    {
+        if self.cells.hit(node as usize) {
+            self.queue.push_reserved(node);
+        }
+    }
+
+    /// One hit on each of some nodes, in order. First all their cells count down, and then all pushes are made: where a push is written
+    /// hangs on what the cells before it say, so that hits that did both would wait for one cell after the other. The looks at the cells
+    /// hang on nothing, and their waits overlap.
+    #[inline(always)]
+    fn hit_block(&mut self, nodes: &[u32])
         requires few { length nodes.now ≤ 64 }
         requires inside { AreNodes self.old nodes.now }
         ensures { self.new ≡ fold hit self.old nodes.now }

@@ -50,6 +50,32 @@ fn solve_families<G: FamilyGates>(
     );
 }
 
+/// Sets the marks of what has fired when the counters have run out. The counters stay as they are then.
+fn fill_marks<G: FamilyGates, L: Ledger>(
+    gates: &G,
+    net: &Graph<'_>,
+    marks: &mut Marks,
+    region: &Region,
+    parts: &mut Parts,
+    steps: &mut Steps<L>,
+)
+    requires idle { IsIdle G.table.width parts.old.rules.bound parts.old.counters parts.old.rules }
+    requires names { length net.now.names ≤ parts.old.rules.bound }
+    requires rules { length net.now.rules ≤ parts.old.rules.bound }
+    requires below { (f : Family) → Contains G.table.below f → IsRight net.now marks.old f }
+    requires ready { IsReady net.now (IsFilledBy G.table) marks.old region.now }
+    ensures filled { IsFilled net.now (IsFilledBy G.table) marks.old marks.new }
+    ensures idle { (y : ℕ) → times y (all_nodes G.table.width 0 G.table.literals region.now.members) ≡ 0 → times y (all_nodes G.table.width G.table.literals (G.table.width - G.table.literals) parts.new.rules.members) ≡ 0 → slice_index parts.new.counters.need y ≡ 0 }
+    ensures size { length parts.new.counters.need ≡ parts.old.rules.bound * G.table.width }
+    ensures bound { parts.new.rules.bound ≡ parts.old.rules.bound }
+    ensures steps { steps.new ≤ steps.old + most_steps G.table.fills (length region.now.members) }
+{
+    let _len = region.len();
+    let _width = gates.width();
+    solve_families(gates, net, marks, region, parts);
+    write_families(gates, &parts.counters, marks, region, steps);
+}
+
 /// A fill with what it counts with, which is left as it was.
 fn fill_with<G: FamilyGates, L: Ledger>(
     gates: &G,
@@ -68,10 +94,8 @@ fn fill_with<G: FamilyGates, L: Ledger>(
     ensures idle { IsIdle G.table.width parts.old.rules.bound parts.new.counters parts.new.rules }
     ensures steps { steps.new ≤ steps.old + most_steps G.table.fills (length region.now.members) }
 {
-    let _len = region.len();
     let width = gates.width();
-    solve_families(gates, net, marks, region, parts);
-    write_families(gates, &parts.counters, marks, region, steps);
+    fill_marks(gates, net, marks, region, parts, steps);
     tidy(
         net,
         width,
@@ -102,4 +126,23 @@ pub fn fill<G: FamilyGates, L: Ledger>(
     ensures steps { steps.new ≤ steps.old + most_steps G.table.fills (length region.now.members) }
 {
     fill_with(gates, net, marks, region, &mut room.parts, steps);
+}
+
+/// `fill`, in a room that goes with it. So nothing is cleared for a fill that comes after.
+pub fn fill_once<G: FamilyGates, L: Ledger>(
+    gates: &G,
+    net: &Graph<'_>,
+    marks: &mut Marks,
+    region: &Region,
+    room: FillRoom,
+    steps: &mut Steps<L>,
+)
+    requires room { HasPlaces G.table (length net.now.rules) (length net.now.names) room }
+    requires below { (f : Family) → Contains G.table.below f → IsRight net.now marks.old f }
+    requires ready { IsReady net.now (IsFilledBy G.table) marks.old region.now }
+    ensures filled { IsFilled net.now (IsFilledBy G.table) marks.old marks.new }
+    ensures steps { steps.new ≤ steps.old + most_steps G.table.fills (length region.now.members) }
+{
+    let mut parts = room.into_parts();
+    fill_marks(gates, net, marks, region, &mut parts, steps);
 }

@@ -12,7 +12,7 @@
 //!
 //! What a family brings is `FamilyGates`: its gates, a table of its wires, with kinds of literals before kinds of rules, and a proof
 //! that exactly what follows has fired after a run. `fill` fills the families of such a table, in a `FillRoom`: it runs the counters
-//! (`solve`), sets the marks whose nodes have fired, and leaves the counters clean. `attack_fails`, `attack_holds`, `gate_of_plus`
+//! (`solve`), sets the marks whose nodes have fired, and leaves the counters clean; `fill_once` lets go of them instead. `attack_fails`, `attack_holds`, `gate_of_plus`
 //! and `gate_of_minus` are the gates of families in which attackers can be answered, `gate_of_some` and `gate_of_each` those of
 //! families in which rules alone bear on a literal.
 //!
@@ -72,7 +72,7 @@ pub use backward::prune;
 pub use basis::Basis;
 pub use counters::Counters;
 pub use family::FamilyGates;
-pub use filling::fill;
+pub use filling::{fill, fill_once};
 pub use gate::{begin, inputs_asked};
 pub use needs::{Need, Needs};
 pub use parts::{Parts, make_parts};

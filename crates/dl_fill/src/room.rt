@@ -1,6 +1,7 @@
 //! Room for fills.
 
 ghost use Rattle.std.specs.Prelude.{◌≡◌, ◌≤◌, OnOk, OnErr};
+ghost use Rattle.dl_fill.specs.Idle.{IsIdle};
 
 use crate::family::FamilyGates;
 use crate::parts::{Parts, make_parts, no_parts};
@@ -67,5 +68,18 @@ impl FillRoom {
             self.places = places;
         }
         Ok(())
+    }
+
+    /// What it counts with, for the last fill of it.
+    pub(crate) fn into_parts(self) -> Parts
+        ensures { IsIdle self.width self.places result.counters result.rules }
+    {
+        let FillRoom {
+            alloc: _,
+            width: _,
+            places: _,
+            parts,
+        } = self;
+        parts
     }
 }

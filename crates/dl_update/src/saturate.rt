@@ -17,7 +17,7 @@ use crate::works::Works;
 use dl_base::Memory;
 use dl_block::BlockGates;
 use dl_definite::DefiniteGates;
-use dl_fill::{FamilyGates, FillRoom, fill};
+use dl_fill::{FamilyGates, FillRoom, fill, fill_once};
 use dl_graph::{Graph, Region};
 use dl_lit::Family;
 use dl_marks::{Marks, Steps};
@@ -40,7 +40,7 @@ fn fill_alone<G: FamilyGates, L: Ledger>(
 {
     let mut room = FillRoom::make(alloc, gates);
     room.reserve(net.rule_numbers(), net.names())?;
-    fill(gates, net, marks, region, &mut room, steps);
+    fill_once(gates, net, marks, region, room, steps);
     Ok(())
 }
 
