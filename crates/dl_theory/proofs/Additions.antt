@@ -11,9 +11,9 @@ use Rattle.dl_theory.specs.declared.edit.EditRefusal.{EditRefusal}
 use Rattle.dl_theory.specs.declared.edit.EditRefusal.TheVariants.{NoLabel}
 use Rattle.dl_theory.specs.declared.edit.PairsStop.{PairsStop}
 use Rattle.dl_theory.specs.declared.edit.PairsStop.TheVariants as pairs_stop
-use Rattle.dl_theory.specs.declared.superiority.PairCause.{PairCause}
-use Rattle.dl_theory.specs.declared.superiority.PairCause.TheVariants as pair_cause
-use Rattle.dl_theory.specs.declared.superiority.PairRefused.{PairRefused}
+use Rattle.dl_theory.specs.declared.refused.PairCause.{PairCause}
+use Rattle.dl_theory.specs.declared.refused.PairCause.TheVariants as pair_cause
+use Rattle.dl_theory.specs.declared.refused.PairRefused.{PairRefused}
 use Rattle.dl_theory.specs.Lists.{TheoryLists, IsWellFormed, labels}
 use Rattle.dl_theory.specs.Pairs.{named}
 use Rattle.dl_theory.specs.Superiority.{AreFree, IsCause, AddsAll}

@@ -1,6 +1,6 @@
 -- Pairs of numbers behind an order.
-use Rattle.std.proofs.Common.{◌≡◌, ℕ, ◌+◌, ◌<◌, List, [], ◌∷◌, ◌++◌, Option, None, Some, Result, Ok, Err, length, take, drop, is_some, true, inl, inr, ◌⊎◌, refl, sym, ap, subst, ◌∙◌, append_assoc, arith, length-append}
-use Rattle.std.specs.Prelude.{All, OnOk, IfErr}
+use Rattle.std.proofs.Common.{◌≡◌, ℕ, zero, suc, ◌+◌, ◌<◌, List, [], ◌∷◌, ◌++◌, Option, None, Some, Result, Ok, Err, length, take, drop, is_some, true, inl, inr, ◌⊎◌, refl, sym, ap, subst, ◌∙◌, append_assoc, arith, length-append}
+use Rattle.std.specs.Prelude.{All, OnOk, IfErr, slice_get}
 use Rattle.std.proofs.lemmas.List.{append-nil, take_all, take-append-le, take-append-drop, length-take-le}
 use Rattle.std.proofs.lemmas.List.Elements.{All-append, All-take, Contains-push_cases}
 use Rattle.std.proofs.lemmas.Option.{slice_get_within, get_or_from_slice_get}
@@ -9,10 +9,12 @@ use Rattle.dl_base.proofs.PathLemmas.{acyclic_more}
 use Rattle.dl_sup.specs.declared.link.Link.{Link}
 use Rattle.dl_sup.specs.declared.stop.LoadStop.{LoadStop}
 use Rattle.dl_sup.specs.declared.stop.LoadStop.TheVariants.{There, Cycle, Memory}
+use Rattle.dl_sup.specs.declared.stop.SupStop.{SupStop}
+use Rattle.dl_sup.specs.declared.stop.SupStop.TheVariants as sup_stop
 use Rattle.dl_sup.specs.Links.{IsOver, IsOrder, link}
-use Rattle.dl_sup.specs.Adding.{IsAddable, AreAddable, IsLoadStop}
-use Rattle.dl_sup.proofs.Cycles.{IsOrder-front}
-use Rattle.dl_theory.specs.declared.superiority.PairRefused.{PairRefused}
+use Rattle.dl_sup.specs.Adding.{IsAddable, AreAddable, StopsAt, IsLoadStop}
+use Rattle.dl_sup.proofs.Cycles.{IsOrder-front, order_addable}
+use Rattle.dl_theory.specs.declared.refused.PairRefused.{PairRefused}
 use Rattle.dl_theory.specs.Pairs.{IsWithin}
 use Rattle.dl_theory.specs.Superiority.{OrdersAll, StopsWithin, IsRefusedAs}
 use Rattle.dl_theory.proofs.Numbers.{track_within}
@@ -39,6 +41,28 @@ order_added old (l ∷ more) h a =
 pub order_taken : (n : ℕ) (pairs : List Link) → IsOrder pairs → IsOrder (take n pairs)
 order_taken n pairs h =
     IsOrder-front (take n pairs) (drop n pairs) (subst (λ (ls : List Link). IsOrder ls) (sym (take-append-drop n pairs)) h)
+
+-- what may be added after the pairs before it may be added there
+addable_at : (old links : List Link) (at : ℕ) (l : Link) → AreAddable old links → slice_get links at ≡ Some l → IsAddable (old ++ take at links) l
+addable_at old [] at l h e = cc
+addable_at old (k ∷ more) zero l h e =
+    subst (λ (ls : List Link). IsAddable ls l) (sym (append-nil old)) (subst (IsAddable old) (let same : k ≡ l = cc in same) h.0)
+addable_at old (k ∷ more) (suc n) l h e =
+    subst (λ (ls : List Link). IsAddable ls l) (append_assoc old (k ∷ []) (take n more)) (addable_at (old ++ k ∷ []) more n l h.1 e)
+
+-- none of the pairs of an order is refused
+pub only_memory : (new links : List Link) (stop : LoadStop) → IsOrder links → IsLoadStop [] new links stop → stop ≡ Memory
+only_memory new links stop order h = by stop h
+  where
+    free : (at : ℕ) (why : SupStop) (s : StopsAt [] new links at why) → IsAddable new s.refused
+    free at why s =
+        subst (λ (ls : List Link). IsAddable ls s.refused) (sym s.added)
+        (addable_at [] links at s.refused (order_addable [] links order) s.stands)
+
+    by : (stop : LoadStop) → IsLoadStop [] new links stop → stop ≡ Memory
+    by (There at) s = absurd ((free at sup_stop.There s).0 s.cause)
+    by (Cycle at track) s = absurd ((free at (sup_stop.Cycle track) s).1 (track, s.cause.1))
+    by Memory s = refl
 
 -- as many of the pairs as were added, behind the old ones
 pub record IsExtended (old new more : List Link) : Type 0 where

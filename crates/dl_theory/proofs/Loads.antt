@@ -14,9 +14,9 @@ use Rattle.dl_base.proofs.PathLemmas.{path_more}
 use Rattle.dl_sup.specs.declared.link.Link.{Link}
 use Rattle.dl_sup.specs.Adding.{AreAddable}
 use Rattle.dl_theory.specs.declared.rule.Pair.{Pair}
-use Rattle.dl_theory.specs.declared.superiority.PairCause.{PairCause}
-use Rattle.dl_theory.specs.declared.superiority.PairCause.TheVariants.{There, Cycle, Full}
-use Rattle.dl_theory.specs.declared.superiority.PairRefused.{PairRefused}
+use Rattle.dl_theory.specs.declared.refused.PairCause.{PairCause}
+use Rattle.dl_theory.specs.declared.refused.PairCause.TheVariants.{There, Cycle, Full}
+use Rattle.dl_theory.specs.declared.refused.PairRefused.{PairRefused}
 use Rattle.dl_theory.specs.Lists.{IsAbove}
 use Rattle.dl_theory.specs.Pairs.{pair_eq, pair_eq-Decides, named, IsWithin, IsNumbered, IsNumberOf}
 use Rattle.dl_theory.specs.Superiority.{moved_back, IsFree, AreFree, IsCause, AddsUpTo, AddsAll, IsLinkCause, OrdersAll}

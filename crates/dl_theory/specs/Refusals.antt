@@ -4,9 +4,9 @@ use Rattle.dl_theory.specs.declared.edit.EditRefusal.{EditRefusal}
 use Rattle.dl_theory.specs.declared.edit.EditRefusal.TheVariants as edit_refusal
 use Rattle.dl_theory.specs.declared.edit.PairsStop.{PairsStop}
 use Rattle.dl_theory.specs.declared.edit.PairsStop.TheVariants as pairs_stop
-use Rattle.dl_theory.specs.declared.superiority.PairRefused.{PairRefused}
-use Rattle.dl_theory.specs.declared.superiority.PairCause.{PairCause}
-use Rattle.dl_theory.specs.declared.superiority.PairCause.TheVariants.{There, Cycle, Full}
+use Rattle.dl_theory.specs.declared.refused.PairRefused.{PairRefused}
+use Rattle.dl_theory.specs.declared.refused.PairCause.{PairCause}
+use Rattle.dl_theory.specs.declared.refused.PairCause.TheVariants.{There, Cycle, Full}
 
 abbrev pub refusal_of : PairCause → EditRefusal
 refusal_of There = edit_refusal.PairThere

@@ -9,9 +9,9 @@ use Rattle.dl_sup.specs.Adding.{AreAddable}
 use Rattle.dl_theory.specs.declared.rule.Pair.{Pair}
 use Rattle.dl_theory.specs.declared.superiority.PairStop.{PairStop}
 use Rattle.dl_theory.specs.declared.superiority.PairStop.TheVariants.{Cycle, Full, Memory}
-use Rattle.dl_theory.specs.declared.superiority.PairCause.{PairCause}
-use Rattle.dl_theory.specs.declared.superiority.PairCause.TheVariants as pair_cause
-use Rattle.dl_theory.specs.declared.superiority.PairRefused.{PairRefused}
+use Rattle.dl_theory.specs.declared.refused.PairCause.{PairCause}
+use Rattle.dl_theory.specs.declared.refused.PairCause.TheVariants as pair_cause
+use Rattle.dl_theory.specs.declared.refused.PairRefused.{PairRefused}
 use Rattle.dl_theory.specs.Lists.{IsAbove}
 use Rattle.dl_theory.specs.Pairs.{Closes, label_at}
 

@@ -1,14 +1,12 @@
-//! Pairs and the labels of rules: which are there, which is missing, and what comes of that.
+//! Pairs and the labels of rules: which are there, which is missing, and at which places they stand.
 
 ghost use Rattle.std.specs.Prelude.{◌≡◌, All, IfOk, IfSome, IfNone, length, map, take};
 ghost use Rattle.dl_theory.specs.Edits.{AreThere, IsFront, IsMissing};
 ghost use Rattle.dl_theory.specs.Pairs.{named, IsWithin, IsNumberOf};
-ghost use Rattle.dl_theory.specs.Refusals.{refusal_of, outcome_of};
 
-use crate::edit::{EditRefusal, PairsStop};
-use crate::labels::{holds_label, place_near, place_of};
+use crate::edit::EditRefusal;
+use crate::labels::{holds_label, place_of};
 use crate::rule::Pair;
-use crate::superiority::{PairCause, PairRefused};
 use dl_lit::{Memory, Name, NameSet};
 use dl_sup::Link;
 use std::alloc::Global;
@@ -57,46 +55,36 @@ fn missing_label(labels: &NameSet<Name>, pair: &Pair) -> Result<EditRefusal, Mem
     Ok(EditRefusal::NoLabel(pair.upper.copy()?))
 }
 
-/// The places of both labels of a pair, if both are there. Those of the hint are tried first.
-pub(crate) fn link_near(labels: &NameSet<Name>, pair: &Pair, hint: Link) -> Option<Link>
-    ensures number { IfSome result (λ l. IsNumberOf labels.now.keys l pair.now) }
-    ensures absent { IfNone result (¬ AreThere labels.now.keys pair.now) }
+/// The places of the labels of pairs, all of which are there.
+pub(crate) fn links_of(
+    alloc: Global,
+    labels: &NameSet<Name>,
+    pairs: &[Pair],
+) -> Result<Vec<Link>, Memory>
+    requires { All (AreThere labels.now.keys) pairs.now }
+    ensures within { IfOk result (λ links. All (IsWithin labels.now.keys) links.items) }
+    ensures named { IfOk result (λ links. pairs.now ≡ map (named labels.now.keys) links.items) }
 {
-    match place_near(labels, &pair.upper, hint.upper) {
-        None => None,
-        Some(upper) => match place_near(labels, &pair.lower, hint.lower) {
-            None => None,
-            Some(lower) => Some(Link { upper, lower }),
-        },
+    let mut links = Vec::with_capacity(alloc, pairs.len())?;
+    for pair in pairs {
+        match link_of(labels, pair) {
+            None => unreachable!(),
+            Some(link) => links.push(link)?,
+        }
     }
+    Ok(links)
 }
 
-fn refusal_of(cause: PairCause) -> EditRefusal
-    ensures { result ≡ refusal_of cause }
+/// The pairs of labels that stand at places.
+pub(crate) fn pairs_of(alloc: Global, labels: &[Name], links: &[Link]) -> Result<Vec<Pair>, Memory>
+    requires { All (IsWithin labels.now) links.now }
+    ensures { IfOk result (λ pairs. pairs.items ≡ map (named labels.now) links.now) }
 {
-    match cause {
-        PairCause::There => EditRefusal::PairThere,
-        PairCause::Cycle(path) => EditRefusal::Cycle(path),
-        PairCause::Full => EditRefusal::PairsFull,
+    let mut pairs = Vec::with_capacity(alloc, links.len())?;
+    for link in links {
+        let upper = labels[link.upper].copy()?;
+        let lower = labels[link.lower].copy()?;
+        pairs.push(Pair { upper, lower })?;
     }
-}
-
-/// The answer, from the first pair that was not added and the first that misses a label, at the end of those that were tried.
-pub(crate) fn outcome_of(
-    refused: Option<PairRefused>,
-    missing: Option<EditRefusal>,
-    end: usize,
-) -> Result<(), PairsStop>
-    ensures { result ≡ outcome_of refused missing end }
-{
-    match refused {
-        Some(refused) => Err(PairsStop::Refused {
-            at: refused.at,
-            refusal: refusal_of(refused.cause),
-        }),
-        None => match missing {
-            Some(refusal) => Err(PairsStop::Refused { at: end, refusal }),
-            None => Ok(()),
-        },
-    }
+    Ok(pairs)
 }

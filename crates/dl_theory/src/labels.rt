@@ -2,7 +2,7 @@
 
 ghost use Rattle.std.specs.Prelude.{◌≡◌, [], ◌∷◌, ◌++◌, ◌↔◌, ◌<◌, IsTrue, IfOk, OnOk, OnErr, IfSome, None, Contains, false, length, slice_index_or, if◌then◌else◌};
 
-use dl_lit::{Memory, Name, NameSet};
+use dl_lit::{Memory, Name, NameSet, name_set};
 
 /// Whether a label is in a set.
 #[inline(always)]
@@ -33,27 +33,13 @@ pub(crate) fn place_of(labels: &NameSet<Name>, label: &Name) -> Option<usize>
     labels.get_index_of(label)
 }
 
-/// The place of a label. One place is tried first, which may be any number: where the label stands there, it is not looked up.
-#[inline(always)]
-pub(crate) fn place_near(labels: &NameSet<Name>, label: &Name, hint: usize) -> Option<usize>
-    ensures within { IfSome result (λ at. at < length labels.now.keys) }
-    ensures there { IfSome result (λ at. slice_index_or labels.now.keys at [] ≡ label.now) }
-    ensures absent { result ≡ None → ¬ Contains labels.now.keys label.now }
+/// An equal set.
+pub(crate) fn copy_labels(labels: &NameSet<Name>) -> Result<NameSet<Name>, Memory>
+    ensures { IfOk result (λ copy. copy.keys ≡ labels.now.keys) }
 {
-    if stands_at(labels, label, hint) {
-        return Some(hint);
+    let mut copy = name_set(*labels.allocator());
+    for label in labels.as_slice() {
+        insert_label(&mut copy, label.copy()?)?;
     }
-    place_of(labels, label)
-}
-
-/// Whether a label stands at a place.
-#[inline(always)]
-pub(crate) fn stands_at(labels: &NameSet<Name>, label: &Name, at: usize) -> bool
-    ensures within { IsTrue result → at < length labels.now.keys }
-    ensures there { IsTrue result → slice_index_or labels.now.keys at [] ≡ label.now }
-{
-    match labels.get_index(at) {
-        None => false,
-        Some(found) => *found == *label,
-    }
+    Ok(copy)
 }

@@ -16,6 +16,7 @@ mod labels;
 mod laws;
 mod lists;
 mod loading;
+mod refused;
 mod rule;
 mod rule_pairs;
 mod rules;

@@ -11,9 +11,9 @@ ghost use Rattle.dl_theory.specs.Pairs.{named, IsWithin};
 ghost use Rattle.dl_theory.specs.Superiority.{AddsAll, OrdersAll};
 
 use crate::edit::PairsStop;
-use crate::labelled::{labelled_front, outcome_of};
+use crate::labelled::labelled_front;
+use crate::refused::{PairCause, PairRefused, outcome_of, refused_of};
 use crate::rule::Pair;
-use crate::superiority::{PairCause, PairRefused, refused_of};
 use crate::theory::LIMIT;
 use dl_lit::{Memory, Name, NameSet};
 use dl_sup::{Link, extend_order};
@@ -75,6 +75,14 @@ impl RulePairs {
         let items = labels.as_slice();
         let refused = add_within_limit(alloc, items, &mut self.links, links.as_slice())?;
         outcome_of(refused, missing, end)
+    }
+
+    /// The places of the labels of each pair.
+    pub(crate) fn as_slice(&self) -> &[Link]
+        ensures value { result.now ≡ self.now }
+        ensures order { IsOrder self.now }
+    {
+        self.links.as_slice()
     }
 
     /// How many pairs there are.

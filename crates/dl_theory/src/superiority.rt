@@ -1,23 +1,20 @@
 //! Pairs of labels without cycles, over an order of numbers.
 
-ghost use Rattle.std.specs.Prelude.{◌≡◌, [], ◌∷◌, ◌++◌, ◌↔◌, ◌<◌, ◌≤◌, ◌||◌, ◌-◌, ℕ, List, IsTrue, OnOk, OnErr, IfOk, IfErr, IfSome, Contains, All, filter, not, map, length, slice_get};
+ghost use Rattle.std.specs.Prelude.{◌≡◌, [], ◌∷◌, ◌++◌, ◌↔◌, ◌<◌, ◌≤◌, ◌||◌, ℕ, List, IsTrue, OnOk, OnErr, IfOk, IfErr, Contains, All, filter, not, map, length, slice_get};
 ghost use Rattle.std.specs.Option.{option_copied};
 ghost use Rattle.std.specs.Str.{bytes_eq};
-ghost use Rattle.dl_base.specs.Paths.{IsDistinct, HasCycle};
-ghost use Rattle.dl_theory.specs.Edits.{AreThere, IsPairsOutcome};
-ghost use Rattle.dl_theory.specs.Lists as lists;
-ghost use Rattle.dl_theory.specs.Lists.{TheoryLists, IsAbove, IsWellFormed};
-ghost use Rattle.dl_sup.specs.declared.link.Link.{Link};
-ghost use Rattle.dl_sup.specs.Links.{names_item};
+ghost use Rattle.dl_base.specs.Paths.{IsDistinct};
+ghost use Rattle.dl_theory.specs.Edits.{AreThere};
+ghost use Rattle.dl_theory.specs.Lists.{IsAbove};
+ghost use Rattle.dl_sup.specs.Links.{IsOrder, names_item};
 ghost use Rattle.dl_sup.specs.Adding.{ClosesCycle};
 ghost use Rattle.dl_theory.specs.Pairs.{pair_eq, Closes, label_at, named, IsWithin, IsNumbered, IsNumberOf};
-ghost use Rattle.dl_theory.specs.Superiority.{IsPairStop, IsLinkStop, AddsAll, OrdersAll, StopsWithin, IsRefusedAs, moved_back};
-ghost use Rattle.std.specs.Option.{option_map_or, option_map};
+ghost use Rattle.dl_theory.specs.Superiority.{IsPairStop, IsLinkStop};
 
-use crate::edit::PairsStop;
-use crate::labelled::{labelled_front, link_near, link_of, outcome_of};
-use crate::labels::{place_of, stands_at};
+use crate::labelled::{link_of, links_of, pairs_of};
+use crate::labels::{copy_labels, place_of};
 use crate::lists::Path;
+use crate::refused::path_of;
 use crate::rule::Pair;
 use crate::theory::LIMIT;
 use dl_lit::{Memory, Name, NameSet, name_set};
@@ -25,29 +22,12 @@ use dl_sup::{Link, LoadStop, Order, SupStop};
 use std::alloc::Global;
 use std::marker::Model;
 
-const NO_HINT: Link = Link { upper: 0, lower: 0 };
-
 /// Why a pair was not added whose labels are there and which is not in the list.
 #[derive(Drop)]
 pub(crate) enum PairStop {
     Cycle(Path),
     Full,
     Memory,
-}
-
-/// Why a pair of several was not added.
-#[derive(Drop)]
-pub(crate) enum PairCause {
-    There,
-    Cycle(Path),
-    Full,
-}
-
-/// The first pair of several that was not added.
-#[derive(Drop)]
-pub(crate) struct PairRefused {
-    pub at: usize,
-    pub cause: PairCause,
 }
 
 impl From<Memory> for PairStop {
@@ -66,9 +46,6 @@ impl From<Memory> for PairStop {
 // order tells whether a pair is in the list.
 pub(crate) struct Superiority {
     pairs: Vec<Pair>,
-    /// The places that the rules of each pair had when it was added, or fewer. They are tried first where these rules are sought, and
-    /// nothing rests on them: a rule that was dropped since has moved others.
-    hints: Vec<Link>,
     items: NameSet<Name>,
     order: Order,
 }
@@ -77,7 +54,6 @@ impl Drop for Superiority {
     fn drop(self) {
         let Superiority {
             pairs: _,
-            hints: _,
             items: _,
             order: _,
         } = self;
@@ -104,7 +80,6 @@ impl Superiority {
     {
         Superiority {
             pairs: Vec::new(alloc),
-            hints: Vec::new(alloc),
             items: name_set(alloc),
             order: Order::make(alloc),
         }
@@ -120,7 +95,7 @@ impl Superiority {
         ensures kept { OnErr result (self.new ≡ self.old) }
     {
         let alloc = *self.pairs.allocator();
-        let link = number_pair(&mut self.items, &pair, NO_HINT)?;
+        let link = number_pair(&mut self.items, &pair)?;
         add_numbered(
             alloc,
             &mut self.pairs,
@@ -131,127 +106,36 @@ impl Superiority {
         )
     }
 
-    /// The pairs of a list, or those before the first that is refused.
-    pub(crate) fn load(
-        alloc: Global,
-        pairs: &[Pair],
-        hints: Vec<Link>,
-    ) -> Result<(Superiority, Option<PairRefused>), Memory>
-        ensures { IfOk result (λ r. AddsAll [] r.0 pairs.now r.1) }
+    /// The pairs of an order, by the places of their labels.
+    pub(crate) fn of(labels: &NameSet<Name>, links: &[Link]) -> Result<Superiority, Memory>
+        requires order { IsOrder links.now }
+        requires within { All (IsWithin labels.now.keys) links.now }
+        ensures { IfOk result (λ list. list ≡ map (named labels.now.keys) links.now) }
     {
-        let mut items = name_set(alloc);
-        let (order, refused) = ordered(alloc, &mut items, pairs, hints.as_slice())?;
-        let kept = kept_len(&refused, pairs.len());
-        let front = copied(alloc, &pairs[..kept])?;
-        Ok((
-            Superiority {
-                pairs: front,
-                hints,
-                items,
-                order,
-            },
-            refused,
-        ))
-    }
-
-    /// Adds pairs at the end, or those before the first that is refused.
-    pub(crate) fn add_all(
-        &mut self,
-        pairs: &[Pair],
-        hints: Vec<Link>,
-    ) -> Result<Option<PairRefused>, Memory>
-        requires distinct { IsDistinct self.old }
-        requires acyclic { ¬ HasCycle (IsAbove self.old) }
-        requires few { length self.old ≤ 1000000 }
-        ensures added { IfOk result (AddsAll self.old self.new pairs.now) }
-        ensures kept { OnErr result (self.new ≡ self.old) }
-    {
-        let (extended, refused) = self.extended(pairs, hints)?;
-        *self = extended;
-        Ok(refused)
-    }
-
-    /// This list with further pairs, or with those before the first that is refused.
-    fn extended(
-        &self,
-        pairs: &[Pair],
-        hints: Vec<Link>,
-    ) -> Result<(Superiority, Option<PairRefused>), Memory>
-        requires distinct { IsDistinct self.now }
-        requires acyclic { ¬ HasCycle (IsAbove self.now) }
-        requires few { length self.now ≤ 1000000 }
-        ensures { IfOk result (λ r. AddsAll self.now r.0 pairs.now r.1) }
-    {
-        let alloc = *self.pairs.allocator();
-        let old = self.len();
-        if old == 0 {
-            return Superiority::load(alloc, pairs, hints);
-        }
-        let hints = joined_hints(alloc, self.hints.as_slice(), old, hints.as_slice())?;
-        let all = joined(alloc, self.pairs.as_slice(), pairs)?;
-        let (extended, refused) = Superiority::load(alloc, all.as_slice(), hints)?;
-        Ok((extended, later(refused, old)))
-    }
-
-    /// The same, where a pair that finds the list full is refused.
-    pub(crate) fn add_within_limit(
-        &mut self,
-        pairs: &[Pair],
-        hints: Vec<Link>,
-    ) -> Result<Option<PairRefused>, Memory>
-        requires distinct { IsDistinct self.old }
-        requires acyclic { ¬ HasCycle (IsAbove self.old) }
-        requires few { length self.old ≤ 1000000 }
-        ensures added { IfOk result (AddsAll self.old self.new pairs.now) }
-        ensures few { length self.new ≤ 1000000 }
-        ensures kept { OnErr result (self.new ≡ self.old) }
-    {
-        let room = LIMIT - self.len();
-        if pairs.len() <= room {
-            return self.add_all(pairs, hints);
-        }
-        let refused = self.add_all(&pairs[..room + 1], hints)?;
-        if refused.is_some() {
-            return Ok(refused);
-        }
-        self.drop_pair(&pairs[room]);
-        let cause = PairCause::Full;
-        Ok(Some(PairRefused { at: room, cause }))
-    }
-
-    /// Adds pairs to those of a theory whose rules have these labels, as adding them one by one, in order, up to the first that is refused.
-    pub(crate) fn add_labelled(
-        &mut self,
-        labels: &NameSet<Name>,
-        pairs: &[Pair],
-    ) -> Result<(), PairsStop>
-        requires distinct { IsDistinct self.old }
-        requires acyclic { ¬ HasCycle (IsAbove self.old) }
-        requires few { length self.old ≤ 1000000 }
-        ensures { (T : TheoryLists) → IsWellFormed T → lists.labels T ≡ labels.now.keys → T.pairs ≡ self.old
-            → IsPairsOutcome T pairs.now (record T { pairs = self.new }) result }
-    {
-        let alloc = *self.pairs.allocator();
-        let (hints, missing) = labelled_front(alloc, labels, pairs)?;
-        let end = hints.len();
-        let refused = self.add_within_limit(&pairs[..end], hints)?;
-        outcome_of(refused, missing, end)
+        let alloc = *labels.allocator();
+        let pairs = pairs_of(alloc, labels.as_slice(), links)?;
+        let items = copy_labels(labels)?;
+        let order = order_of(alloc, links)?;
+        Ok(Superiority {
+            pairs,
+            items,
+            order,
+        })
     }
 
     /// An equal list.
     pub(crate) fn copy(&self) -> Result<Superiority, Memory>
-        requires distinct { IsDistinct self.now }
-        requires acyclic { ¬ HasCycle (IsAbove self.now) }
-        requires few { length self.now ≤ 1000000 }
         ensures { IfOk result (λ copy. copy ≡ self.now) }
     {
         let alloc = *self.pairs.allocator();
-        let hints = joined_hints(alloc, self.hints.as_slice(), self.len(), &[])?;
-        let (copy, refused) = Superiority::load(alloc, self.pairs.as_slice(), hints)?;
-        match refused {
-            None => Ok(copy),
-            Some(_) => unreachable!(),
-        }
+        let pairs = copied(alloc, self.pairs.as_slice())?;
+        let items = copy_labels(&self.items)?;
+        let order = self.order.copy()?;
+        Ok(Superiority {
+            pairs,
+            items,
+            order,
+        })
     }
 
     /// Removes a pair; tells whether it was there.
@@ -313,7 +197,7 @@ impl Superiority {
         ensures named { IfOk result (λ links. self.now ≡ map (named labels.now.keys) links.items) }
     {
         let alloc = *self.pairs.allocator();
-        links_near(alloc, labels, self.pairs.as_slice(), self.hints.as_slice())
+        links_of(alloc, labels, self.pairs.as_slice())
     }
 
     /// The pairs, in order.
@@ -324,187 +208,41 @@ impl Superiority {
     }
 }
 
-/// The place of a label among the items, which may grow. One place is tried first, which may be any number.
-fn number(items: &mut NameSet<Name>, label: &Name, hint: usize) -> Result<usize, Memory>
+/// The place of a label among the items, which may grow.
+fn number(items: &mut NameSet<Name>, label: &Name) -> Result<usize, Memory>
     requires { IsDistinct items.old.keys }
     ensures distinct { IsDistinct items.new.keys }
     ensures grown { (more : List (List ℕ)) × (items.new.keys ≡ items.old.keys ++ more) }
     ensures within { IfOk result (λ n. n < length items.new.keys) }
     ensures names { IfOk result (λ n. label_at items.new.keys n ≡ label.now) }
 {
-    if stands_at(items, label, hint) {
-        return Ok(hint);
-    }
     let (at, _) = items.insert_full(label.copy()?)?;
     Ok(at)
 }
 
-/// The places of both labels of a pair. Those of the hint are tried first.
-fn number_pair(items: &mut NameSet<Name>, pair: &Pair, hint: Link) -> Result<Link, Memory>
+/// The places of both labels of a pair.
+fn number_pair(items: &mut NameSet<Name>, pair: &Pair) -> Result<Link, Memory>
     requires { IsDistinct items.old.keys }
     ensures distinct { IsDistinct items.new.keys }
     ensures grown { (more : List (List ℕ)) × (items.new.keys ≡ items.old.keys ++ more) }
     ensures number { IfOk result (λ l. IsNumberOf items.new.keys l pair.now) }
 {
-    let upper = number(items, &pair.upper, hint.upper)?;
-    let lower = number(items, &pair.lower, hint.lower)?;
+    let upper = number(items, &pair.upper)?;
+    let lower = number(items, &pair.lower)?;
     Ok(Link { upper, lower })
 }
 
-/// The numbers that the labels of the rules at two places had last.
-fn known_numbers(known: &[usize], places: Link) -> Link {
-    Link {
-        upper: known.get(places.upper).copied().unwrap_or(0),
-        lower: known.get(places.lower).copied().unwrap_or(0),
-    }
-}
-
-/// Notes the number that the label of the rule at a place has.
-fn note(known: &mut Vec<usize>, place: usize, number: usize) -> Result<(), Memory> {
-    if known.len() <= place {
-        known.resize(place.saturating_add(1), 0)?;
-    }
-    if place < known.len() {
-        known[place] = number;
-    }
-    Ok(())
-}
-
-/// The numbers of pairs. A label that stands in many pairs is looked up once, where the hints are right.
-fn number_all(
-    alloc: Global,
-    items: &mut NameSet<Name>,
-    pairs: &[Pair],
-    hints: &[Link],
-) -> Result<Vec<Link>, Memory>
-    requires { IsDistinct items.old.keys }
-    ensures { IfOk result (λ links. IsNumbered items.new.keys links.items pairs.now) }
-{
-    let mut known = Vec::new(alloc);
-    let mut links = Vec::with_capacity(alloc, pairs.len())?;
-    for (at, pair) in pairs.iter().enumerate() {
-        let places = hint_at(hints, at);
-        let link = number_pair(items, pair, known_numbers(known.as_slice(), places))?;
-        note(&mut known, places.upper, link.upper)?;
-        note(&mut known, places.lower, link.lower)?;
-        links.push(link)?;
-    }
-    Ok(links)
-}
-
-/// The places of the labels of pairs, all of which are there. Those of the hints are tried first.
-fn links_near(
-    alloc: Global,
-    labels: &NameSet<Name>,
-    pairs: &[Pair],
-    hints: &[Link],
-) -> Result<Vec<Link>, Memory>
-    requires { All (AreThere labels.now.keys) pairs.now }
-    ensures within { IfOk result (λ links. All (IsWithin labels.now.keys) links.items) }
-    ensures named { IfOk result (λ links. pairs.now ≡ map (named labels.now.keys) links.items) }
-{
-    let mut links = Vec::with_capacity(alloc, pairs.len())?;
-    for (at, pair) in pairs.iter().enumerate() {
-        match link_near(labels, pair, hint_at(hints, at)) {
-            None => unreachable!(),
-            Some(link) => links.push(link)?,
-        }
-    }
-    Ok(links)
-}
-
-fn hint_at(hints: &[Link], at: usize) -> Link {
-    hints.get(at).copied().unwrap_or(NO_HINT)
-}
-
-/// The hints of as many first pairs, and of those behind them.
-fn joined_hints(
-    alloc: Global,
-    old: &[Link],
-    len: usize,
-    new: &[Link],
-) -> Result<Vec<Link>, Memory> {
-    let mut hints = Vec::with_capacity(alloc, len)?;
-    for at in 0..len {
-        hints.push(hint_at(old, at))?;
-    }
-    hints.extend_from_slice(new)?;
-    Ok(hints)
-}
-
-/// An order of the numbers of pairs, or of those before the first that is refused.
-fn ordered(
-    alloc: Global,
-    items: &mut NameSet<Name>,
-    pairs: &[Pair],
-    hints: &[Link],
-) -> Result<(Order, Option<PairRefused>), Memory>
-    requires { IsDistinct items.old.keys }
-    ensures { IfOk result (λ r. (links : List Link) × IsNumbered items.new.keys links pairs.now × OrdersAll items.new.keys [] r.0 links r.1) }
-{
-    let links = number_all(alloc, items, pairs, hints)?;
-    order_of(alloc, items.as_slice(), links.as_slice())
-}
-
-/// An order of pairs of numbers, or of those before the first that is refused.
-fn order_of(
-    alloc: Global,
-    items: &[Name],
-    links: &[Link],
-) -> Result<(Order, Option<PairRefused>), Memory>
-    requires { All (IsWithin items.now) links.now }
-    ensures { IfOk result (λ r. OrdersAll items.now [] r.0 links.now r.1) }
+/// The order of pairs of numbers that are one.
+fn order_of(alloc: Global, links: &[Link]) -> Result<Order, Memory>
+    requires { IsOrder links.now }
+    ensures { IfOk result (λ order. order ≡ links.now) }
 {
     let mut order = Order::make(alloc);
-    let done = order.add_all(links);
-    let refused = refused_of(alloc, items, done)?;
-    Ok((order, refused))
-}
-
-/// The first pair of numbers that was not added, and why, in labels.
-pub(crate) fn refused_of(
-    alloc: Global,
-    items: &[Name],
-    done: Result<(), LoadStop>,
-) -> Result<Option<PairRefused>, Memory>
-    requires { IfErr done (StopsWithin items.now) }
-    ensures { IfOk result (IsRefusedAs items.now done) }
-{
-    match done {
-        Ok(()) => Ok(None),
-        Err(LoadStop::There { at }) => {
-            let cause = PairCause::There;
-            Ok(Some(PairRefused { at, cause }))
-        }
-        Err(LoadStop::Cycle { at, track }) => {
-            let cause = PairCause::Cycle(path_of(alloc, items, track.as_slice())?);
-            Ok(Some(PairRefused { at, cause }))
-        }
+    match order.add_all(links) {
+        Ok(()) => Ok(order),
         Err(LoadStop::Memory) => Err(Memory),
-    }
-}
-
-/// How many pairs come before the one that is refused.
-fn kept_len(refused: &Option<PairRefused>, len: usize) -> usize
-    ensures { result ≡ option_map_or (λ r. r.at) refused.now len }
-{
-    match refused {
-        None => len,
-        Some(refused) => refused.at,
-    }
-}
-
-/// A refusal by its place behind the first pairs.
-fn later(refused: Option<PairRefused>, by: usize) -> Option<PairRefused>
-    requires { IfSome refused (λ r. by ≤ r.at) }
-    ensures { result ≡ option_map (moved_back by) refused }
-{
-    match refused {
-        None => None,
-        Some(refused) => Some(PairRefused {
-            at: refused.at - by,
-            cause: refused.cause,
-        }),
+        Err(LoadStop::There { .. }) => unreachable!(),
+        Err(LoadStop::Cycle { .. }) => unreachable!(),
     }
 }
 
@@ -512,38 +250,10 @@ fn copied(alloc: Global, pairs: &[Pair]) -> Result<Vec<Pair>, Memory>
     ensures { IfOk result (λ all. all.items ≡ pairs.now) }
 {
     let mut all = Vec::with_capacity(alloc, pairs.len())?;
-    copy_behind(&mut all, pairs)?;
-    Ok(all)
-}
-
-fn joined(alloc: Global, old: &[Pair], new: &[Pair]) -> Result<Vec<Pair>, Memory>
-    ensures { IfOk result (λ all. all.items ≡ old.now ++ new.now) }
-{
-    let mut all = Vec::with_capacity(alloc, old.len() + new.len())?;
-    copy_behind(&mut all, old)?;
-    copy_behind(&mut all, new)?;
-    Ok(all)
-}
-
-fn copy_behind(all: &mut Vec<Pair>, pairs: &[Pair]) -> Result<(), Memory>
-    ensures { OnOk result (all.new.items ≡ all.old.items ++ pairs.now) }
-{
     for pair in pairs {
         all.push(pair.copy()?)?;
     }
-    Ok(())
-}
-
-/// The labels of a track of numbers.
-fn path_of(alloc: Global, items: &[Name], track: &[usize]) -> Result<Path, Memory>
-    requires { All (λ n. n < length items.now) track.now }
-    ensures { IfOk result (λ path. path ≡ map (label_at items.now) track.now) }
-{
-    let mut path = Path::make(alloc);
-    for n in track {
-        path.push(items[*n].copy()?)?;
-    }
-    Ok(path)
+    Ok(all)
 }
 
 /// Adds a pair of numbers.

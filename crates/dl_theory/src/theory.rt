@@ -206,7 +206,10 @@ impl Theory {
     pub fn add_pairs(&mut self, pairs: &[Pair]) -> Result<(), PairsStop>
         ensures { IsPairsOutcome self.old pairs.now self.new result }
     {
-        self.pairs.add_labelled(self.rules.labels(), pairs)
+        let mut links = self.rule_pairs()?;
+        let done = links.add_labelled(self.rules.labels(), pairs);
+        self.pairs = Superiority::of(self.rules.labels(), links.as_slice())?;
+        done
     }
 
     /// Removes a fact that is there. Takes no memory.
