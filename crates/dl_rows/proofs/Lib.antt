@@ -1,5 +1,6 @@
 pub mod NumberLists
 pub mod TableLemmas
+pub mod FormLemmas
 pub mod Keeping
 pub mod RowLemmas
 pub mod PackedLemmas

@@ -6,7 +6,6 @@ pub mod OpenView
 pub mod TablesView
 pub mod Packed
 pub mod PackedView
-pub mod HeldView
 pub mod Counting
 pub mod Rows
 pub mod Region

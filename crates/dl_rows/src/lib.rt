@@ -7,7 +7,6 @@
 //! which says what any table of lists promises.
 #![tactic(auto)]
 
-mod held_rows;
 mod lists;
 mod open_rows;
 mod packed_rows;

@@ -3,8 +3,8 @@
 ghost use Rattle.std.specs.Prelude.{◌≡◌, ℕ, ◌+◌, ◌<◌, ◌≤◌, ◌≢◌, ◌==◌, [], ◌∷◌, ◌++◌, OnOk, OnErr, IfOk, length, slice_get, set, if◌then◌else◌};
 ghost use Rattle.dl_rows.specs.Tables.{no_table, list_at, spare_at, drop_item, KeepsLists, IsOpen};
 
-use crate::held_rows::HeldRows;
 use crate::lists::Lists;
+use crate::packed_rows::PackedRows;
 use crate::row::Row;
 use dl_base::Memory;
 use dl_pages::Table;
@@ -37,7 +37,7 @@ impl OpenRows {
     }
 
     /// The lists that stood packed.
-    pub fn of(packed: &HeldRows) -> Result<OpenRows, Memory>
+    pub fn of(packed: &PackedRows) -> Result<OpenRows, Memory>
         ensures { IfOk result (λ rows. rows.lists ≡ packed.now) }
     {
         let alloc = packed.alloc();

@@ -104,6 +104,23 @@ impl Lists for PackedRows {
         }
     }
 
+    // how long a list is stands in its span, so that nothing is cut out of all numbers to count it
+    #[inline(always)]
+    fn count(&self, number: usize) -> usize {
+        match self.spans.get(number) {
+            None => 0,
+            Some(span) => span.len as usize,
+        }
+    }
+
+    #[inline(always)]
+    fn get(&self, number: usize, at: usize) -> Option<u32> {
+        match self.spans.get(number) {
+            Some(span) if at < span.len as usize => Some(self.items[span.start as usize + at]),
+            _ => None,
+        }
+    }
+
     #[inline(always)]
     fn append(&mut self, number: usize, item: u32) -> Result<(), Memory> {
         let span = self.spans[number];

@@ -3,13 +3,14 @@
 ghost use Rattle.std.specs.Prelude.{◌≡◌, ℕ, ◌+◌, ◌<◌, ◌≤◌, ◌≢◌, ◌==◌, [], ◌∷◌, ◌++◌, OnOk, OnErr, IfOk, map, length, slice_get, set, if◌then◌else◌};
 ghost use Rattle.dl_rows.specs.Tables.{no_table, list_at, spare_at, drop_item, KeepsLists, IsOpen};
 
-use crate::held_rows::HeldRows;
 use crate::lists::Lists;
 use crate::open_rows::OpenRows;
 use crate::packed_rows::PackedRows;
 use dl_base::Memory;
 use std::alloc::Global;
 use std::marker::Model;
+use std::mem;
+use std::sync::Arc;
 
 /// A list of numbers at each number. What is frozen is shared with each copy, and a list is copied, with those beside it, before it is written
 /// again: to reserve it does that.
@@ -23,11 +24,13 @@ impl Drop for RowTable {
     }
 }
 
-/// Lists that grow, or lists that stand packed in the room that they were made with, until one of them is to have more.
+/// Lists that stand packed in the room that they were made with, until one of them is to have more, or lists that grow. Packed lists are
+/// written only as long as nobody shares them.
 #[derive(Drop)]
 enum Rows {
+    Packed(PackedRows),
+    Shared(Arc<PackedRows>),
     Open(OpenRows),
-    Packed(HeldRows),
 }
 
 impl Model for RowTable {
@@ -57,7 +60,7 @@ impl RowTable {
     {
         let rows = PackedRows::with_room(alloc, counts)?;
         Ok(RowTable {
-            rows: Rows::Packed(HeldRows::of(rows)),
+            rows: Rows::Packed(rows),
         })
     }
 
@@ -66,8 +69,9 @@ impl RowTable {
         ensures { IfOk result (λ copy. copy.lists ≡ self.now.lists) }
     {
         let rows = match &self.rows {
-            Rows::Open(rows) => Rows::Open(rows.copy()?),
             Rows::Packed(rows) => Rows::Packed(rows.copy()?),
+            Rows::Shared(rows) => Rows::Shared(Arc::try_clone(rows)?),
+            Rows::Open(rows) => Rows::Open(rows.copy()?),
         };
         Ok(RowTable { rows })
     }
@@ -78,15 +82,14 @@ impl RowTable {
         ensures grown { OnOk result (length self.new.lists ≡ length self.old.lists + 1) }
         ensures err { OnErr result (self.new ≡ self.old) }
     {
-        match &mut self.rows {
-            Rows::Open(rows) => rows.grow(),
-            Rows::Packed(rows) => {
-                let mut open = OpenRows::of(rows)?;
-                open.grow()?;
-                self.rows = Rows::Open(open);
-                Ok(())
-            }
-        }
+        let mut open = match &mut self.rows {
+            Rows::Packed(rows) => OpenRows::of(rows)?,
+            Rows::Shared(rows) => OpenRows::of(rows)?,
+            Rows::Open(rows) => return rows.grow(),
+        };
+        open.grow()?;
+        self.rows = Rows::Open(open);
+        Ok(())
     }
 
     /// Room for one more number in a list, which is not shared from then on. Packed lists are opened for it, once for all. `Memory` where there
@@ -97,15 +100,14 @@ impl RowTable {
         ensures same { length self.new.lists ≡ length self.old.lists }
         ensures room { OnOk result (0 < spare_at self.new number) }
     {
-        match &mut self.rows {
-            Rows::Open(rows) => rows.reserve(number),
-            Rows::Packed(rows) => {
-                let mut open = OpenRows::of(rows)?;
-                open.reserve(number)?;
-                self.rows = Rows::Open(open);
-                Ok(())
-            }
-        }
+        let mut open = match &mut self.rows {
+            Rows::Packed(rows) => OpenRows::of(rows)?,
+            Rows::Shared(rows) => OpenRows::of(rows)?,
+            Rows::Open(rows) => return rows.reserve(number),
+        };
+        open.reserve(number)?;
+        self.rows = Rows::Open(open);
+        Ok(())
     }
 
     /// A number at the end of a list, in room that is there.
@@ -117,7 +119,7 @@ impl RowTable {
         match &mut self.rows {
             Rows::Open(rows) => rows.push(number, item),
             // packed lists have no room that is known of
-            Rows::Packed(_) => unreachable!(),
+            Rows::Packed(_) | Rows::Shared(_) => unreachable!(),
         }
     }
 
@@ -145,7 +147,7 @@ impl RowTable {
         }
         match &mut self.rows {
             Rows::Open(rows) => rows.remove(number, item),
-            Rows::Packed(_) => unreachable!(),
+            Rows::Packed(_) | Rows::Shared(_) => unreachable!(),
         }
     }
 
@@ -161,7 +163,7 @@ impl RowTable {
         }
         match &mut self.rows {
             Rows::Open(rows) => rows.clear(number),
-            Rows::Packed(_) => unreachable!(),
+            Rows::Packed(_) | Rows::Shared(_) => unreachable!(),
         }
     }
 
@@ -171,8 +173,22 @@ impl RowTable {
         ensures { self.new.lists ≡ self.old.lists }
     {
         match &mut self.rows {
+            Rows::Packed(rows) => {
+                let alloc = rows.alloc();
+                let rows = mem::replace(rows, PackedRows::none(alloc));
+                match Arc::new(alloc, rows) {
+                    Ok(shared) => {
+                        self.rows = Rows::Shared(shared);
+                        Ok(())
+                    }
+                    Err(failed) => {
+                        self.rows = Rows::Packed(failed.value);
+                        Err(Memory)
+                    }
+                }
+            }
+            Rows::Shared(_) => Ok(()),
             Rows::Open(rows) => rows.freeze(),
-            Rows::Packed(rows) => rows.freeze(),
         }
     }
 }
@@ -183,32 +199,54 @@ impl Lists for RowTable {
     #[inline(always)]
     fn len(&self) -> usize {
         match &self.rows {
-            Rows::Open(rows) => rows.len(),
             Rows::Packed(rows) => rows.len(),
+            Rows::Shared(rows) => rows.len(),
+            Rows::Open(rows) => rows.len(),
         }
     }
 
     #[inline(always)]
     fn row(&self, number: usize) -> &[u32] {
         match &self.rows {
-            Rows::Open(rows) => rows.row(number),
             Rows::Packed(rows) => rows.row(number),
+            Rows::Shared(rows) => rows.row(number),
+            Rows::Open(rows) => rows.row(number),
+        }
+    }
+
+    #[inline(always)]
+    fn count(&self, number: usize) -> usize {
+        match &self.rows {
+            Rows::Packed(rows) => rows.count(number),
+            Rows::Shared(rows) => rows.count(number),
+            Rows::Open(rows) => rows.count(number),
+        }
+    }
+
+    #[inline(always)]
+    fn get(&self, number: usize, at: usize) -> Option<u32> {
+        match &self.rows {
+            Rows::Packed(rows) => rows.get(number, at),
+            Rows::Shared(rows) => rows.get(number, at),
+            Rows::Open(rows) => rows.get(number, at),
         }
     }
 
     #[inline(always)]
     fn append(&mut self, number: usize, item: u32) -> Result<(), Memory> {
         match &mut self.rows {
-            Rows::Open(rows) => rows.append(number, item),
             Rows::Packed(rows) => rows.append(number, item),
+            Rows::Shared(_) => Err(Memory),
+            Rows::Open(rows) => rows.append(number, item),
         }
     }
 
     #[inline(always)]
     fn has_room(&self, number: usize) -> bool {
         match &self.rows {
-            Rows::Open(rows) => rows.has_room(number),
             Rows::Packed(rows) => rows.has_room(number),
+            Rows::Shared(_) => false,
+            Rows::Open(rows) => rows.has_room(number),
         }
     }
 }

@@ -1,14 +1,10 @@
-use Rattle.std.proofs.Common.{ℕ, ◌≡◌, sym, ap, ◌∙◌, arith}
+use Rattle.std.proofs.Common.{◌≡◌, sym, ap, ◌∙◌, arith}
 use Rattle.dl_rows.specs.Tables.{RowLists, spare_at}
-use Rattle.dl_rows.specs.TablesView.{table_of}
-use Rattle.dl_rows.specs.declared.row_table.Rows.{Rows}
-use Rattle.dl_rows.proofs.TableLemmas.{constant_at}
+use Rattle.dl_rows.proofs.FormLemmas.{packed_full}
 use Rattle.dl_rows.proofs.row_table.RowTable.push.Goals as goal
 
 pub unreachable-requires : goal.unreachable-requires
 unreachable-requires c =
     let full : spare_at c.args.self.now c.args.number ≡ 0 =
-    ap (λ (t : RowLists). spare_at t c.args.number) (sym c.self.view_is)
-    ∙ ap (λ (r : Rows). spare_at (table_of r) c.args.number) c.in-Packed.is
-    ∙ constant_at {Y = ℕ} 0 c.in-Packed.field-0 c.args.number in
+    ap (λ (t : RowLists). spare_at t c.args.number) (sym c.self.view_is) ∙ packed_full c.self.inside.rows c.in-Packed.is c.args.number in
     omega (arith, full, c.requires)

@@ -1,12 +1,17 @@
-use Rattle.std.proofs.Common.{sym, subst}
-use Rattle.dl_rows.specs.Tables.{RowLists, KeepsLists}
-use Rattle.dl_rows.specs.TablesView.{table_of}
-use Rattle.dl_rows.specs.declared.row_table.Rows.{Rows}
-use Rattle.dl_rows.proofs.TableLemmas.{opened_keeps}
+use Rattle.std.proofs.Common.{sym, ap, ◌∙◌, refl}
+use Rattle.dl_rows.specs.Tables.{RowLists}
+use Rattle.dl_rows.specs.TablesView.{packed_table}
+use Rattle.dl_rows.proofs.FormLemmas.{packed_keeps}
 use Rattle.dl_rows.proofs.row_table.RowTable.reserve.Goals as goal
+use Rattle.dl_rows.proofs.row_table.RowTable.reserve.Goals.{in-Packed+in_ok-open-in-Packed, in-Shared+in_ok-open-in-Shared}
 
-pub returns-in_ok-reserve-in-Packed-clause-kept : goal.returns-in_ok-reserve-in-Packed-clause-kept
-returns-in_ok-reserve-in-Packed-clause-kept c =
-    subst (λ (t : RowLists). KeepsLists t c.reserve-in-Packed.new.self) c.self.view_is
-    (subst (λ (r : Rows). KeepsLists (table_of r) c.reserve-in-Packed.new.self) (sym c.in-Packed.is)
-    (opened_keeps c.in-Packed.rows c.in_ok-open-in-Packed.open c.reserve-in-Packed.new.self c.in_ok-open-in-Packed.ensures c.reserve-in-Packed.ensures.kept))
+pub returns-clause-kept : goal.returns-clause-kept
+returns-clause-kept c =
+    elim c.match-self.branch [
+      | in-Packed+in_ok-open-in-Packed w ↦
+          packed_keeps c.args.self.now c.self.inside.rows _ w.in-Packed.rows c.match-self.open c.reserve-2.new.self c.self.view_is w.in-Packed.is refl
+          (ap (λ (t : RowLists). t.lists) w.open-is ∙ w.in_ok-open-in-Packed.ensures) c.reserve-2.ensures.kept
+      | in-Shared+in_ok-open-in-Shared w ↦
+          packed_keeps c.args.self.now c.self.inside.rows _ w.deref.result.now c.match-self.open c.reserve-2.new.self c.self.view_is w.in-Shared.is (ap packed_table (sym w.deref.ensures))
+          (ap (λ (t : RowLists). t.lists) w.open-is ∙ w.in_ok-open-in-Shared.ensures) c.reserve-2.ensures.kept
+    ]
