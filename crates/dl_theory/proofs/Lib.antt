@@ -1,7 +1,6 @@
 pub mod Places
 pub mod Numbers
 pub mod Extending
-pub mod Loads
 pub mod Within
 pub mod Clashes
 pub mod Steps

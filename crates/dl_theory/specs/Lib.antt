@@ -7,7 +7,6 @@ pub mod Pairs
 pub mod Superiority
 pub mod KeptPairs
 pub mod Edits
-pub mod Refusals
 pub mod Cones
 pub mod Laws
 pub mod Marks

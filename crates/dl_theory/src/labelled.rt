@@ -65,14 +65,11 @@ pub(crate) fn links_of(
     ensures within { IfOk result (λ links. All (IsWithin labels.now.keys) links.items) }
     ensures named { IfOk result (λ links. pairs.now ≡ map (named labels.now.keys) links.items) }
 {
-    let mut links = Vec::with_capacity(alloc, pairs.len())?;
-    for pair in pairs {
-        match link_of(labels, pair) {
-            None => unreachable!(),
-            Some(link) => links.push(link)?,
-        }
+    let (links, missing) = labelled_front(alloc, labels, pairs)?;
+    match missing {
+        None => Ok(links),
+        Some(_) => unreachable!(),
     }
-    Ok(links)
 }
 
 /// The pairs of labels that stand at places.

@@ -1,18 +1,17 @@
 //! Pairs of rules by the places of their labels.
 
-ghost use Rattle.std.specs.Prelude.{◌≡◌, ◌≤◌, [], All, OnErr, IfOk, map, length, slice_get};
+ghost use Rattle.std.specs.Prelude.{◌≡◌, ◌≤◌, [], All, map, length, slice_get};
 ghost use Rattle.std.specs.Option.{option_map};
-ghost use Rattle.dl_base.specs.Paths.{IsDistinct};
 ghost use Rattle.dl_sup.specs.Links.{IsOrder};
 ghost use Rattle.dl_theory.specs.Edits.{IsPairsOutcome};
 ghost use Rattle.dl_theory.specs.Lists as lists;
 ghost use Rattle.dl_theory.specs.Lists.{TheoryLists, IsWellFormed};
 ghost use Rattle.dl_theory.specs.Pairs.{named, IsWithin};
-ghost use Rattle.dl_theory.specs.Superiority.{AddsAll, OrdersAll};
+ghost use Rattle.dl_theory.specs.Superiority.{IsLinksOutcome};
 
-use crate::edit::PairsStop;
+use crate::edit::{EditRefusal, PairsStop};
 use crate::labelled::labelled_front;
-use crate::refused::{PairCause, PairRefused, outcome_of, refused_of};
+use crate::refused::told;
 use crate::rule::Pair;
 use crate::theory::LIMIT;
 use dl_lit::{Memory, Name, NameSet};
@@ -73,8 +72,11 @@ impl RulePairs {
         let (links, missing) = labelled_front(alloc, labels, pairs)?;
         let end = links.len();
         let items = labels.as_slice();
-        let refused = add_within_limit(alloc, items, &mut self.links, links.as_slice())?;
-        outcome_of(refused, missing, end)
+        add_within_limit(alloc, items, &mut self.links, links.as_slice())?;
+        match missing {
+            None => Ok(()),
+            Some(refusal) => Err(PairsStop::Refused { at: end, refusal }),
+        }
     }
 
     /// The places of the labels of each pair.
@@ -103,59 +105,58 @@ impl RulePairs {
     }
 }
 
-/// Adds pairs behind an order, up to the first that is refused; the labels are for the answer.
-fn add_all(
-    alloc: Global,
-    items: &[Name],
-    links: &mut Vec<Link>,
-    more: &[Link],
-) -> Result<Option<PairRefused>, Memory>
-    requires order { IsOrder links.old.items }
-    requires old_within { All (IsWithin items.now) links.old.items }
-    requires more_within { All (IsWithin items.now) more.now }
-    ensures order { IsOrder links.new.items }
-    ensures within { All (IsWithin items.now) links.new.items }
-    ensures added { IfOk result (OrdersAll items.now links.old.items links.new.items more.now) }
-    ensures kept { OnErr result (links.new.items ≡ links.old.items) }
-{
-    let old = links.len();
-    let done = extend_order(links, more);
-    match refused_of(alloc, items, done) {
-        Ok(refused) => Ok(refused),
-        Err(memory) => {
-            links.truncate(old);
-            Err(memory)
-        }
-    }
-}
-
-/// The same, where a pair that finds the list full is refused.
+/// Adds pairs behind an order, up to the first that is refused or finds the list full; the labels are for the answer.
 fn add_within_limit(
     alloc: Global,
     items: &[Name],
     links: &mut Vec<Link>,
     more: &[Link],
-) -> Result<Option<PairRefused>, Memory>
+) -> Result<(), PairsStop>
     requires order { IsOrder links.old.items }
     requires old_within { All (IsWithin items.now) links.old.items }
     requires more_within { All (IsWithin items.now) more.now }
-    requires distinct { IsDistinct items.now }
     requires few { length links.old.items ≤ 1000000 }
     ensures order { IsOrder links.new.items }
     ensures within { All (IsWithin items.now) links.new.items }
     ensures few { length links.new.items ≤ 1000000 }
-    ensures added { IfOk result (AddsAll (map (named items.now) links.old.items) (map (named items.now) links.new.items) (map (named items.now) more.now)) }
-    ensures kept { OnErr result (links.new.items ≡ links.old.items) }
+    ensures outcome { IsLinksOutcome items.now links.old.items links.new.items more.now result }
 {
     let room = LIMIT - links.len();
-    if more.len() <= room {
-        return add_all(alloc, items, links, more);
-    }
-    let refused = add_all(alloc, items, links, &more[..room + 1])?;
-    if refused.is_some() {
-        return Ok(refused);
+    // one more than there is room for, since a pair is only told to find the list full where nothing else is wrong with it
+    let tried = more.len().min(room + 1);
+    add_all(alloc, items, links, &more[..tried])?;
+    if links.len() <= LIMIT {
+        return Ok(());
     }
     links.truncate(LIMIT);
-    let cause = PairCause::Full;
-    Ok(Some(PairRefused { at: room, cause }))
+    let refusal = EditRefusal::PairsFull;
+    Err(PairsStop::Refused { at: room, refusal })
+}
+
+/// The same without a limit.
+fn add_all(
+    alloc: Global,
+    items: &[Name],
+    links: &mut Vec<Link>,
+    more: &[Link],
+) -> Result<(), PairsStop>
+    requires order { IsOrder links.old.items }
+    requires old_within { All (IsWithin items.now) links.old.items }
+    requires more_within { All (IsWithin items.now) more.now }
+    ensures order { IsOrder links.new.items }
+    ensures within { All (IsWithin items.now) links.new.items }
+    ensures outcome { IsLinksOutcome items.now links.old.items links.new.items more.now result }
+{
+    let old = links.len();
+    let stop = match extend_order(links, more) {
+        Ok(()) => return Ok(()),
+        Err(stop) => told(alloc, items, stop),
+    };
+    match stop {
+        PairsStop::Refused { at, refusal } => Err(PairsStop::Refused { at, refusal }),
+        PairsStop::Memory => {
+            links.truncate(old);
+            Err(PairsStop::Memory)
+        }
+    }
 }

@@ -29,8 +29,8 @@ loop-label-preserved c =
     (subst (λ (l : List ℕ). Contains (take at labels) l) is m)) in
     c.in_ok-insert_label.ensures.keys
     ∙ ap (λ ls. c.loop-label.copy.keys ++ ls)
-      (new_last c.in_ok-insert_label.field-0 label
-      (λ old. new (subst (λ (ls : List (List ℕ)). Contains ls label) c.loop-label.invariant (c.in_ok-insert_label.ensures.new.0 old))))
+    (new_last c.in_ok-insert_label.field-0 label
+    (λ old. new (subst (λ (ls : List (List ℕ)). Contains ls label) c.loop-label.invariant (c.in_ok-insert_label.ensures.new.0 old))))
     ∙ ap (λ ls. ls ++ label ∷ []) c.loop-label.invariant
     ∙ ap (λ l. take at labels ++ l ∷ []) is
     ∙ sym (take_more labels at c.label-item.result c.loop-label-test.true)
