@@ -1,4 +1,5 @@
 pub mod PartLemmas
 pub mod PageLemmas
 pub mod PagedLemmas
+pub mod NestedLemmas
 pub mod TableLemmas

@@ -1,14 +1,12 @@
 -- Pages one after another.
-use Rattle.std.specs.List.{Contains}
-use Rattle.dl_pages.specs.Pages.{PageItems, empty_page, parts, marks, flags, items_of, owned_of, KeepsPages, AreListed, Filled}
-use Rattle.dl_pages.specs.KeptPaged.{IsKeptPaged}
-use Rattle.dl_pages.proofs.PartLemmas.{joined, filled_bound, part_length, part_within, joined_at, joined_set, joined_push, filled_push, filled_set, filled_take, joined_take}
-use Rattle.std.proofs.Common.{◌≡◌, ℕ, zero, suc, ◌+◌, ◌-◌, ◌*◌, ◌^◌, ◌<◌, ◌≤◌, Bool, true, false, List, [], ◌∷◌, ◌++◌, refl, length, get_or, set, take, map, replicate, sym, ap, ◌∙◌, subst, ap₂, arith, inl, inr, get_or-set_same, get_or-set_other, length-take, get_or-take, append_assoc, ◌≢◌}
+use Rattle.dl_pages.specs.Pages.{PageItems, empty_page, parts, marks, flags, items_of, owned_of, KeepsPages, Filled}
+use Rattle.dl_pages.specs.KeptPages.{IsKept}
+use Rattle.dl_pages.proofs.PartLemmas.{joined, filled_length, filled_bound, part_length, part_within, joined_at, joined_set, joined_push, filled_push, filled_set, filled_take, joined_take}
+use Rattle.std.proofs.Common.{◌≡◌, ℕ, zero, suc, ◌+◌, ◌-◌, ◌*◌, ◌^◌, ◌<◌, ◌≤◌, Bool, true, false, List, [], ◌∷◌, ◌++◌, refl, length, get_or, set, take, map, replicate, sym, ap, ◌∙◌, subst, ap₂, arith, inl, inr, get_or-set_same, get_or-set_other, append_assoc, ◌≢◌}
 use Rattle.std.proofs.Math.ListN.{length-map, length-set}
 use Rattle.std.proofs.Math.Seq.{map-set_same}
-use Rattle.std.proofs.lemmas.List.Elements.{Contains-append_left, Contains-append_right, Contains-append_cases}
-use Rattle.std.proofs.lemmas.Bool.{cases_eq, cases_lt, false_from_ne_true}
-use Rattle.std.proofs.lemmas.List.{get_or-map, map-set, get_or_past, get_or-replicate, length-replicate, replicate_more, length_push, take-map}
+use Rattle.std.proofs.lemmas.Bool.{cases_eq, cases_lt}
+use Rattle.std.proofs.lemmas.List.{get_or-map, map-set, get_or_past, get_or-replicate, length-replicate, replicate_more, length_push, take-map, nil_from_length}
 
 none_front : (n : ℕ) (b : Bool) (ys : List Bool) → b ≡ false → ((i : ℕ) → get_or ys i false ≡ false) → (i : ℕ) → get_or (replicate n b ++ ys) i false ≡ false
 none_front zero b ys e h i = h i
@@ -42,7 +40,7 @@ owned_none T (suc m) = owned_none T m
 
 filled_none : (T : Type 0) (m : ℕ) (n : ℕ) → n ≡ 0 → Filled (parts {T = T} (replicate m empty_page)) n
 filled_none T zero n e = e
-filled_none T (suc m) n e = (omega (arith, e), filled_none T m (n - 256) (omega (arith, e)))
+filled_none T (suc m) n e = (omega (arith, e), filled_none T m (n - 64) (omega (arith, e)))
 
 flags_none : (T : Type 0) (m k : ℕ) → get_or (flags {T = T} (replicate m empty_page)) k true ≡ true
 flags_none T zero k = refl
@@ -54,7 +52,7 @@ module _ {T : Type 0} where
 
   pub marks_filled : (pages : List (PageItems T)) (n : ℕ) → Filled (parts pages) n → Filled (map marks pages) n
   marks_filled [] n h = h
-  marks_filled (p ∷ ps) n h = (length-replicate (length p.items) p.owned ∙ h.0, marks_filled ps (n - 256) h.1)
+  marks_filled (p ∷ ps) n h = (length-replicate (length p.items) p.owned ∙ h.0, marks_filled ps (n - 64) h.1)
 
   mark_at : (pages : List (PageItems T)) (k r : ℕ) → r < length (get_or (parts pages) k [])
       → get_or (get_or (map marks pages) k []) r false ≡ get_or (flags pages) k true
@@ -63,7 +61,7 @@ module _ {T : Type 0} where
   mark_at (p ∷ ps) (suc k) r h = mark_at ps k r h
 
   -- a place may be written where its page is owned
-  pub owned_at : (pages : List (PageItems T)) (n at k r : ℕ) → Filled (parts pages) n → at ≡ 256 * k + r → r < 256 → at < n
+  pub owned_at : (pages : List (PageItems T)) (n at k r : ℕ) → Filled (parts pages) n → at ≡ 64 * k + r → r < 64 → at < n
       → get_or (owned_of pages) at false ≡ get_or (flags pages) k true
   owned_at pages n at k r h e small lt =
       joined_at (map marks pages) n at k r false (marks_filled pages n h) e small lt
@@ -100,7 +98,7 @@ module _ {T : Type 0} where
 
   pub filled_more : (pages : List (PageItems T)) (m n : ℕ) → Filled (parts pages) n → Filled (parts (pages ++ replicate m empty_page)) n
   filled_more [] m n h = filled_none T m n h
-  filled_more (p ∷ ps) m n h = (h.0, filled_more ps m (n - 256) h.1)
+  filled_more (p ∷ ps) m n h = (h.0, filled_more ps m (n - 64) h.1)
 
   pub flags_more : (pages : List (PageItems T)) (m k : ℕ) → get_or (flags pages) k true ≡ true → get_or (flags (pages ++ replicate m empty_page)) k true ≡ true
   flags_more [] m k h = flags_none T m k
@@ -138,17 +136,25 @@ module _ {T : Type 0} where
     }
 
     -- which pages are owned after it
-    flag_set : (d : Bool) → get_or (flags (set pages k q)) k d ≡ q.owned
+    pub flag_set : (d : Bool) → get_or (flags (set pages k q)) k d ≡ q.owned
     flag_set d =
         ap (λ (bs : List Bool). get_or bs k d) (map-set (λ page. page.owned) pages k q)
         ∙ get_or-set_same (flags pages) k q.owned d (subst (λ i. k < i) (sym (length-map pages (λ page. page.owned))) within)
 
-    flag_other : (j : ℕ) → j ≢ k → get_or (flags (set pages k q)) j false ≡ get_or (flags pages) j false
+    pub flag_other : (j : ℕ) → j ≢ k → get_or (flags (set pages k q)) j false ≡ get_or (flags pages) j false
     flag_other j differs =
         ap (λ (bs : List Bool). get_or bs j false) (map-set (λ page. page.owned) pages k q) ∙ get_or-set_other (flags pages) k j q.owned false differs
 
     pub shared_here : q.owned ≡ false → get_or (flags (set pages k q)) k false ≡ false
     shared_here e = flag_set false ∙ e
+
+    pub shared_next : q.owned ≡ false → ((j : ℕ) → j < k → get_or (flags pages) j false ≡ false) → (j : ℕ) → j < k + 1
+        → get_or (flags (set pages k q)) j false ≡ false
+    shared_next e before j lt =
+        elim (cases_eq j k) [
+          | inl same ↦ ap (λ i. get_or (flags (set pages k q)) i false) same ∙ shared_here e
+          | inr differs ↦ flag_other j differs ∙ before j (omega (arith, lt, differs))
+        ]
 
     pub owned_set : q.owned ≡ true → get_or (flags (set pages k q)) k true ≡ true
     owned_set e = flag_set true ∙ e
@@ -162,17 +168,8 @@ module _ {T : Type 0} where
           | inr differs ↦ sym (flag_other j differs) ∙ h
         ]
 
-    -- the page's number is noted where it is owned
-    pub listed_set : (numbers room more : List ℕ) → AreListed pages numbers → room ≡ numbers → more ≡ room ++ k ∷ [] → AreListed (set pages k q) more
-    listed_set numbers room more listed same e j h =
-        subst (λ xs. Contains xs j) (sym (e ∙ ap (λ xs. xs ++ k ∷ []) same))
-        (elim (cases_eq j k) [
-          | inl here ↦ Contains-append_right numbers (k ∷ []) j (0, omega arith, sym here)
-          | inr differs ↦ Contains-append_left numbers (k ∷ []) j (listed j (sym (flag_other j differs) ∙ h))
-        ])
-
     -- a place in the page
-    module _ (n at r : ℕ) (filled : Filled (parts pages) n) (place : at ≡ 256 * k + r) (small : r < 256) (lt : at < n) where
+    module _ (n at r : ℕ) (filled : Filled (parts pages) n) (place : at ≡ 64 * k + r) (small : r < 64) (lt : at < n) where
       pub place_in : r < length p.items
       place_in = subst (λ l. r < length l) part_here (part_within (parts pages) n at k r filled place small lt)
 
@@ -182,11 +179,11 @@ module _ {T : Type 0} where
       pub owned_here : get_or (owned_of pages) at false ≡ p.owned
       owned_here = owned_at pages n at k r filled place small lt ∙ flag_here
 
-    pub length_here : (n r : ℕ) → Filled (parts pages) n → n ≡ 256 * k + r → r < 256 → length p.items ≡ r
+    pub length_here : (n r : ℕ) → Filled (parts pages) n → n ≡ 64 * k + r → r < 64 → length p.items ≡ r
     length_here n r filled place small = ap length (sym part_here) ∙ part_length (parts pages) n k r filled place small
 
     -- an element is put in the place of another
-    module _ (n at r : ℕ) (v : T) (filled : Filled (parts pages) n) (place : at ≡ 256 * k + r) (small : r < 256) (lt : at < n) (put : q.items ≡ set p.items r v) (owned : q.owned ≡ p.owned) where
+    module _ (n at r : ℕ) (v : T) (filled : Filled (parts pages) n) (place : at ≡ 64 * k + r) (small : r < 64) (lt : at < n) (put : q.items ≡ set p.items r v) (owned : q.owned ≡ p.owned) where
       put_part : parts (set pages k q) ≡ set (parts pages) k (set (get_or (parts pages) k []) r v)
       put_part = map-set (λ page. page.items) pages k q ∙ ap (λ l. set (parts pages) k l) (put ∙ ap (λ l. set l r v) (sym part_here))
 
@@ -205,7 +202,7 @@ module _ {T : Type 0} where
           (ap₂ (λ m b. replicate m b) (ap length put ∙ length-set p.items r v) owned ∙ ap marks read))
 
     -- an element goes last
-    module _ (n r : ℕ) (v : T) (filled : Filled (parts pages) n) (place : n ≡ 256 * k + r) (small : r < 256) (put : q.items ≡ p.items ++ v ∷ []) (was : p.owned ≡ true) (owned : q.owned ≡ true) where
+    module _ (n r : ℕ) (v : T) (filled : Filled (parts pages) n) (place : n ≡ 64 * k + r) (small : r < 64) (put : q.items ≡ p.items ++ v ∷ []) (was : p.owned ≡ true) (owned : q.owned ≡ true) where
       push_part : parts (set pages k q) ≡ set (parts pages) k (get_or (parts pages) k [] ++ v ∷ [])
       push_part = map-set (λ page. page.items) pages k q ∙ ap (λ l. set (parts pages) k l) (put ∙ ap (λ l. l ++ v ∷ []) (sym part_here))
 
@@ -238,79 +235,64 @@ module _ {T : Type 0} where
   pub length_same : (old new : List (PageItems T)) → parts new ≡ parts old → length new ≡ length old
   length_same old new e = sym (length-map new (λ page. page.items)) ∙ ap length e ∙ length-map old (λ page. page.items)
 
-  pub kept_pages : (old new : List (PageItems T)) (was owned : List ℕ) (len spare : ℕ) → KeepsPages old new → AreListed new owned → IsKeptPaged old was len spare
-      → IsKeptPaged new owned len spare
-  kept_pages old new was owned len spare keeps listed kept = record {
+  pub kept_pages : (old new : List (PageItems T)) (len spare : ℕ) → KeepsPages old new → IsKept old len spare → IsKept new len spare
+  kept_pages old new len spare keeps kept = record {
     filled = subst (λ ps. Filled ps len) (sym keeps.items) kept.filled;
-    listed = listed;
     small = kept.small;
     room = omega (arith, kept.room, length_same old new keeps.items);
-    fresh = λ k le. keeps.owned k (kept.fresh k le);
-    ready = λ some k lt. keeps.owned k (kept.ready some k lt);
+    ready = λ some k lt within. keeps.owned k (kept.ready some k lt within);
   }
 
-  -- pages of which none is behind the last element need not be owned
-  pub kept_frozen : (pages new : List (PageItems T)) (owned : List ℕ) (len used : ℕ) → Filled (parts pages) len → len < 2 ^ 64 → len ≤ 256 * used → 256 * used < len + 256
-      → parts new ≡ parts (take used pages) → AreListed new owned → IsKeptPaged new owned len 0
-  kept_frozen pages new owned len used filled small le tight e listed =
+  -- where there is no room, no page need be owned
+  pub kept_frozen : (pages new : List (PageItems T)) (len used : ℕ) → Filled (parts pages) len → len < 2 ^ 64 → len ≤ 64 * used
+      → parts new ≡ parts (take used pages) → IsKept new len 0
+  kept_frozen pages new len used filled small le e =
       let filled' : Filled (parts new) len = subst (λ ps. Filled ps len) (sym (e ∙ sym (take-map (λ page. page.items) used pages))) (filled_take (parts pages) len used filled le) in
-      let few : length new ≤ used = omega (arith, length_same (take used pages) new e, length-take used pages) in
       record {
         filled = filled';
-        listed = listed;
         small = omega (arith, small);
         room = omega (arith, filled_bound (parts new) len filled', length-map new (λ page. page.items));
-        fresh = λ k h. get_or_past (flags new) k true (omega (arith, few, tight, h, length-map new (λ page. page.owned)));
-        ready = λ some k h. absurd (omega (arith, some));
+        ready = λ some k h within. absurd (omega (arith, some));
       }
 
-  pub items_frozen : (pages new : List (PageItems T)) (len used : ℕ) → Filled (parts pages) len → len ≤ 256 * used
+  -- pages that have no elements yet
+  pub kept_empty : (new : List (PageItems T)) (m room : ℕ) → new ≡ replicate m empty_page → room < 2 ^ 64 → room ≤ 64 * length new → IsKept new 0 room
+  kept_empty new m room e small enough = record {
+    filled = subst (λ ps. Filled (parts ps) 0) (sym e) (filled_none T m 0 refl);
+    small = omega (arith, small);
+    room = omega (arith, enough);
+    ready = λ some k h lt. ap (λ ps. get_or (flags ps) k true) e ∙ flags_none T m k;
+  }
+
+  pub items_empty : (new : List (PageItems T)) (m : ℕ) → new ≡ replicate m empty_page → items_of new ≡ []
+  items_empty new m e = ap items_of e ∙ items_none T m
+
+  pub items_frozen : (pages new : List (PageItems T)) (len used : ℕ) → Filled (parts pages) len → len ≤ 64 * used
       → parts new ≡ parts (take used pages) → items_of new ≡ items_of pages
   items_frozen pages new len used filled le e = ap joined (e ∙ sym (take-map (λ page. page.items) used pages)) ∙ joined_take (parts pages) len used filled le
 
-  pub owned_frozen : (pages : List (PageItems T)) (len used : ℕ) → Filled (parts pages) len → len ≤ 256 * used
+  pub owned_frozen : (pages : List (PageItems T)) (len used : ℕ) → Filled (parts pages) len → len ≤ 64 * used
       → owned_of (take used pages) ≡ owned_of pages
   owned_frozen pages len used filled le = ap joined (sym (take-map marks used pages)) ∙ joined_take (map marks pages) len used (marks_filled pages len filled) le
 
-  -- ---- the numbers of the owned pages
+  -- ---- which places are owned, where only pages without elements changed
 
-  pub listed_none : (pages : List (PageItems T)) → AreListed pages [] → (k : ℕ) → get_or (flags pages) k false ≡ false
-  listed_none pages listed k = false_from_ne_true (get_or (flags pages) k false) (λ yes. let h = listed k yes in omega (arith, h.1))
+  owned_empty : (pages : List (PageItems T)) (n : ℕ) → Filled (parts pages) n → n ≡ 0 → owned_of pages ≡ []
+  owned_empty pages n filled none = nil_from_length (owned_of pages) (omega (arith, none, filled_length (map marks pages) n (marks_filled pages n filled)))
 
-  pub listed_push : (pages new : List (PageItems T)) (numbers room more : List ℕ) (n : ℕ) (p : PageItems T) → AreListed pages numbers → new ≡ pages ++ p ∷ []
-      → room ≡ numbers → more ≡ room ++ n ∷ [] → n ≡ length pages → AreListed new more
-  listed_push pages new numbers room more n p listed e same e' is k h =
-      subst (λ xs. Contains xs k) (sym (e' ∙ ap (λ xs. xs ++ n ∷ []) same))
-      (elim (cases_eq k (length pages)) [
-        | inl last ↦ Contains-append_right numbers (n ∷ []) k (0, omega arith, is ∙ sym last)
-        | inr differs ↦ Contains-append_left numbers (n ∷ []) k (listed k (flag_before pages p k differs (ap (λ ps. get_or (flags ps) k false) (sym e) ∙ h)))
-      ])
-    where
-      flag_before : (ps : List (PageItems T)) (q : PageItems T) (j : ℕ) → j ≢ length ps → get_or (flags (ps ++ q ∷ [])) j false ≡ true → get_or (flags ps) j false ≡ true
-      flag_before [] q zero differs h = absurd (differs refl)
-      flag_before [] q (suc j) differs h = h
-      flag_before (x ∷ ps) q zero differs h = h
-      flag_before (x ∷ ps) q (suc j) differs h = flag_before ps q j (λ e. differs (omega (arith, e))) h
-
-  -- the last number goes out when its page is shared
-  pub listed_pop : (pages new : List (PageItems T)) (numbers rest : List ℕ) (last : ℕ) → AreListed pages numbers → numbers ≡ rest ++ last ∷ []
-      → ((k : ℕ) → get_or (flags new) k false ≡ true → get_or (flags pages) k false ≡ true) → get_or (flags new) last false ≡ false → AreListed new rest
-  listed_pop pages new numbers rest last listed e down shared k h =
-      elim (Contains-append_cases rest (last ∷ []) k (subst (λ xs. Contains xs k) e (listed k (down k h)))) [
-        | inl found ↦ found
-        | inr found ↦ let same : last ≡ k = only found in let yes : get_or (flags new) last false ≡ true = ap (λ i. get_or (flags new) i false) same ∙ h in absurd (cc)
-      ]
-    where
-      only : Contains (last ∷ []) k → last ≡ k
-      only (zero, lt, at) = at
-      only (suc i, lt, at) = absurd (omega (arith, lt))
-
-  pub listed_take : (pages : List (PageItems T)) (numbers : List ℕ) (n : ℕ) → AreListed pages numbers → AreListed (take n pages) numbers
-  listed_take pages numbers n listed k h =
-      elim (cases_lt k n) [
-        | inl lt ↦ listed k (sym (ap (λ (bs : List Bool). get_or bs k false) (sym (take-map (λ page. page.owned) n pages)) ∙ get_or-take n (flags pages) k false lt) ∙ h)
-        | inr ge ↦
-            let past : get_or (flags (take n pages)) k false ≡ false =
-            get_or_past (flags (take n pages)) k false (omega (arith, ge, length-map (take n pages) (λ page. page.owned), length-take n pages)) in
-            absurd (cc)
-      ]
+  pub owned_first : (old new : List (PageItems T)) (n first : ℕ) → Filled (parts old) n → n < 64 * (first + 1) → parts new ≡ parts old
+      → ((k : ℕ) → k ≤ first → get_or (flags new) k false ≡ get_or (flags old) k false) → owned_of new ≡ owned_of old
+  owned_first [] [] n first filled lt e same = refl
+  owned_first [] (q ∷ qs) n first filled lt e same = absurd (cc)
+  owned_first (p ∷ ps) [] n first filled lt e same = absurd (cc)
+  owned_first (p ∷ ps) (q ∷ qs) n zero filled lt e same =
+      let rest : parts qs ≡ parts ps = cc in
+      ap₂ (λ l m. l ++ m)
+      (ap₂ (λ m b. replicate m b) (ap length (let items : q.items ≡ p.items = cc in items)) (same 0 (omega arith)))
+      (owned_empty qs (n - 64) (subst (λ l. Filled l (n - 64)) (sym rest) filled.1) (omega (arith, lt))
+      ∙ sym (owned_empty ps (n - 64) filled.1 (omega (arith, lt))))
+  owned_first (p ∷ ps) (q ∷ qs) n (suc first) filled lt e same =
+      let rest : parts qs ≡ parts ps = cc in
+      ap₂ (λ l m. l ++ m)
+      (ap₂ (λ m b. replicate m b) (ap length (let items : q.items ≡ p.items = cc in items)) (same 0 (omega arith)))
+      (owned_first ps qs (n - 64) first filled.1 (omega (arith, lt)) rest (λ k le. same (suc k) (omega (arith, le))))

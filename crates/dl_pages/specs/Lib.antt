@@ -1,5 +1,6 @@
 pub mod Paged
 pub mod Pages
 pub mod KeptPage
+pub mod KeptPages
 pub mod KeptPaged
 pub mod KeptTable

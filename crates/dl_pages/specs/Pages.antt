@@ -1,6 +1,6 @@
 -- Pages one after another.
-use Rattle.std.specs.Prelude.{◌≡◌, ℕ, ◌-◌, min, Bool, true, false, List, [], ◌∷◌, map, length, replicate, get_or}
-use Rattle.std.specs.List.{flat_map, Contains}
+use Rattle.std.specs.Prelude.{◌≡◌, ℕ, ◌-◌, min, Bool, true, false, List, [], ◌∷◌, ◌++◌, map, length, replicate, get_or, set}
+use Rattle.std.specs.List.{flat_map}
 
 -- the elements of a page, and whether they may be written
 pub record PageItems (T : Type 0) : Type 0 where
@@ -34,11 +34,27 @@ module _ {T : Type 0} where
     pub items : parts new ≡ parts old
     pub owned : (k : ℕ) → get_or (flags old) k true ≡ true → get_or (flags new) k true ≡ true
 
-  -- each page that is owned is among these numbers
-  abbrev pub AreListed : List (PageItems T) → List ℕ → Type 0
-  AreListed pages numbers = (k : ℕ) → get_or (flags pages) k false ≡ true → Contains numbers k
+  -- the page of a number
+  abbrev pub page_at : List (PageItems T) → ℕ → PageItems T
+  page_at pages number = get_or pages number empty_page
 
--- of n elements each part has 256, but for the last that has any
+  -- a page with one element more
+  abbrev pub pushed : PageItems T → T → PageItems T
+  pushed page value = record { items = page.items ++ value ∷ []; owned = page.owned }
+
+  -- a page with an element in the place of another
+  abbrev pub written : PageItems T → ℕ → T → PageItems T
+  written page at value = record { items = set page.items at value; owned = page.owned }
+
+  -- a page that is owned stands where it may be written
+  abbrev pub AreNested : List (PageItems T) → List Bool → Type 0
+  AreNested pages places = (k : ℕ) → get_or (flags pages) k false ≡ true → get_or places k false ≡ true
+
+  -- no page is owned
+  abbrev pub AreShared : List (PageItems T) → Type 0
+  AreShared pages = (k : ℕ) → get_or (flags pages) k false ≡ false
+
+-- of n elements each part has 64, but for the last that has any
 abbrev pub Filled : {X : Type 0} → List (List X) → ℕ → Type 0
 Filled [] n = n ≡ 0
-Filled (part ∷ parts) n = (length part ≡ min 256 n) × Filled parts (n - 256)
+Filled (part ∷ parts) n = (length part ≡ min 64 n) × Filled parts (n - 64)

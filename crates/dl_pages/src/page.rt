@@ -1,19 +1,21 @@
 //! A page of a list: a few elements, which the list has for itself or shares.
 
-ghost use Rattle.std.specs.Prelude.{◌≡◌, ◌<◌, [], ◌∷◌, ◌++◌, true, false, IfOk, OnOk, OnErr, length, get_or, set};
+ghost use Rattle.std.specs.Prelude.{◌≡◌, ℕ, ◌<◌, [], ◌∷◌, ◌++◌, ◌≤◌, true, false, IfOk, OnOk, OnErr, length, get_or, set};
+ghost use Rattle.std.specs.Vec.{vec_capacity};
 ghost use Rattle.dl_pages.specs.Paged.{IsExact};
-ghost use Rattle.dl_pages.specs.Pages.{empty_page};
+ghost use Rattle.dl_pages.specs.Pages.{PageItems, empty_page, page_at, pushed, written};
 
 use dl_base::Memory;
-use std::alloc::Global;
+use std::alloc::{AllocError, Global};
+use std::boxed::Box;
 use std::marker::Model;
 use std::mem;
 use std::sync::Arc;
 
 /// As many elements as a page has room for.
-pub(crate) const PAGE: usize = 256;
+pub(crate) const PAGE: usize = 64;
 
-/// Up to 256 elements. A page that is owned has room for that many.
+/// Up to 64 elements. A page that is owned has room for that many. It is a pointer, and whose the elements are.
 pub(crate) struct Page<T> {
     elements: Elements<T>,
 }
@@ -21,7 +23,7 @@ pub(crate) struct Page<T> {
 /// Elements of one list, or of all that share them.
 #[derive(Drop)]
 enum Elements<T> {
-    Own(Vec<T>),
+    Own(Box<Vec<T>>),
     Shared(Arc<Vec<T>>),
 }
 
@@ -44,16 +46,6 @@ impl<T> Model for Page<T> {
 }
 
 impl<T> Page<T> {
-    /// No elements, with room for a whole page.
-    pub(crate) fn make(alloc: Global) -> Result<Page<T>, Memory>
-        ensures { IfOk result (λ page. page ≡ empty_page) }
-    {
-        let items = Vec::with_capacity(alloc, PAGE)?;
-        Ok(Page {
-            elements: Elements::Own(items),
-        })
-    }
-
     /// The element at a place.
     #[inline(always)]
     pub(crate) fn at(&self, at: usize) -> &T
@@ -70,7 +62,7 @@ impl<T> Page<T> {
     #[inline(always)]
     pub(crate) fn push(&mut self, value: T)
         requires owned { self.old.owned ≡ true }
-        requires room { length self.old.items < 256 }
+        requires room { length self.old.items < 64 }
         ensures items { self.new.items ≡ self.old.items ++ value ∷ [] }
         ensures owned { self.new.owned ≡ true }
     {
@@ -123,18 +115,28 @@ impl<T> Page<T> {
 }
 
 impl<T: Drop> Page<T> {
+    /// No elements, with room for a whole page.
+    pub(crate) fn make(alloc: Global) -> Result<Page<T>, Memory>
+        ensures { IfOk result (λ page. page ≡ empty_page) }
+    {
+        let items = Vec::with_capacity(alloc, PAGE)?;
+        Ok(Page {
+            elements: Elements::Own(Box::new(alloc, items)?),
+        })
+    }
+
     /// The page is shared from now on, which takes one `Arc` where it was not. `Memory` where there is none for that.
     pub(crate) fn freeze(&mut self, alloc: Global) -> Result<(), Memory>
         ensures items { self.new.items ≡ self.old.items }
         ensures shared { OnOk result (self.new.owned ≡ false) }
         ensures fewer { self.new.owned ≡ true → self.old.owned ≡ true }
     {
-        if let Elements::Own(items) = &mut self.elements {
-            let items = mem::replace(items, Vec::new(alloc));
+        if let Elements::Own(owned) = &mut self.elements {
+            let items = Box::replace(owned, Vec::new(alloc));
             match Arc::new(alloc, items) {
                 Ok(shared) => self.elements = Elements::Shared(shared),
                 Err(failed) => {
-                    self.elements = Elements::Own(failed.value);
+                    let _empty = Box::replace(owned, failed.value);
                     return Err(Memory);
                 }
             }
@@ -152,10 +154,108 @@ impl<T: Clone> Page<T> {
         ensures err { OnErr result (self.new ≡ self.old) }
     {
         if let Elements::Shared(items) = &self.elements {
-            let mut copy = Vec::with_capacity(alloc, PAGE)?;
-            copy.extend_with_clones(items.as_slice())?;
+            let copy = copied(alloc, items.as_slice())?;
             self.elements = Elements::Own(copy);
         }
         Ok(())
     }
+}
+
+impl<T> Page<Page<T>> {
+    /// An element at the end of one of the pages, in room that is there.
+    pub(crate) fn push_in(&mut self, at: usize, value: T)
+        requires owned { self.old.owned ≡ true }
+        requires within { at < length self.old.items }
+        requires page { (page_at self.old.items at).owned ≡ true }
+        requires room { length (page_at self.old.items at).items < 64 }
+        ensures items { self.new.items ≡ set self.old.items at (pushed (page_at self.old.items at) value) }
+        ensures owned { self.new.owned ≡ true }
+    {
+        match &mut self.elements {
+            Elements::Own(pages) => {
+                let page = &mut pages[at];
+                page.push(value);
+            }
+            Elements::Shared(_) => unreachable!(),
+        }
+    }
+
+    /// An element of one of the pages in the place of another, which is returned.
+    pub(crate) fn put_in(&mut self, at: usize, place: usize, value: T) -> T
+        requires owned { self.old.owned ≡ true }
+        requires within { at < length self.old.items }
+        requires page { (page_at self.old.items at).owned ≡ true }
+        requires place { place < length (page_at self.old.items at).items }
+        ensures value { result ≡ get_or (page_at self.old.items at).items place result }
+        ensures items { self.new.items ≡ set self.old.items at (written (page_at self.old.items at) place value) }
+        ensures owned { self.new.owned ≡ true }
+    {
+        match &mut self.elements {
+            Elements::Own(pages) => {
+                let page = &mut pages[at];
+                page.put(place, value)
+            }
+            Elements::Shared(_) => unreachable!(),
+        }
+    }
+}
+
+impl<T: Drop> Page<Page<T>> {
+    /// One of the pages is shared from now on. `Memory` where there is no `Arc` for that.
+    pub(crate) fn freeze_in(&mut self, at: usize, alloc: Global) -> Result<(), Memory>
+        requires owned { self.old.owned ≡ true }
+        requires within { at < length self.old.items }
+        ensures page { (page : PageItems T) × (self.new.items ≡ set self.old.items at page) × (page.items ≡ (page_at self.old.items at).items) × (page.owned ≡ true → (page_at self.old.items at).owned ≡ true) × OnOk result (page.owned ≡ false) }
+        ensures owned { self.new.owned ≡ true }
+    {
+        match &mut self.elements {
+            Elements::Own(pages) => {
+                let page = &mut pages[at];
+                page.freeze(alloc)
+            }
+            Elements::Shared(_) => unreachable!(),
+        }
+    }
+}
+
+impl<T: Clone> Page<Page<T>> {
+    /// One of the pages is owned from now on, by a copy of it where it was shared. `Memory` leaves it as it was.
+    pub(crate) fn own_in(&mut self, at: usize, alloc: Global) -> Result<(), Memory>
+        requires exact { IsExact T.is_clone }
+        requires owned { self.old.owned ≡ true }
+        requires within { at < length self.old.items }
+        ensures page { (page : PageItems T) × (self.new.items ≡ set self.old.items at page) × (page.items ≡ (page_at self.old.items at).items) × OnOk result (page.owned ≡ true) × OnErr result (page ≡ page_at self.old.items at) }
+        ensures owned { self.new.owned ≡ true }
+    {
+        match &mut self.elements {
+            Elements::Own(pages) => {
+                let page = &mut pages[at];
+                page.own(alloc)
+            }
+            Elements::Shared(_) => unreachable!(),
+        }
+    }
+}
+
+/// An equal page, where a copy of an element is that element. Who has a shared page shares it, and elements of a page that is owned are copied.
+impl<T: Clone> Clone for Page<T> {
+    ghost is_clone = { λ page copy. IsExact T.is_clone → copy ≡ page };
+
+    fn clone(&self) -> Result<Page<T>, AllocError> {
+        let elements = match &self.elements {
+            Elements::Own(items) => { Elements::Own(copied(*items.allocator(), items.as_slice())?) }
+            Elements::Shared(items) => Elements::Shared(Arc::try_clone(items)?),
+        };
+        Ok(Page { elements })
+    }
+}
+
+/// Copies of elements, in room for a whole page.
+fn copied<T: Clone>(alloc: Global, items: &[T]) -> Result<Box<Vec<T>>, AllocError>
+    ensures items { IsExact T.is_clone → IfOk result (λ copy. copy.value.items ≡ items.now) }
+    ensures room { IfOk result (λ copy. 64 ≤ vec_capacity copy.value) }
+{
+    let mut copy = Vec::with_capacity(alloc, PAGE)?;
+    copy.extend_with_clones(items)?;
+    Ok(Box::new(alloc, copy)?)
 }

@@ -1,21 +1,21 @@
 //! A list in pages that can be shared.
 
-ghost use Rattle.std.specs.Prelude.{◌≡◌, ℕ, ◌+◌, ◌*◌, ◌<◌, ◌≤◌, [], ◌∷◌, ◌++◌, true, false, List, IfOk, OnOk, OnErr, map, length, get_or, set, replicate};
+ghost use Rattle.std.specs.Prelude.{◌≡◌, ℕ, ◌+◌, ◌<◌, ◌≤◌, [], ◌∷◌, ◌++◌, true, false, IfOk, OnOk, OnErr, length, get_or, set, take, replicate, slice_get, ◌≢◌};
+ghost use Rattle.std.specs.Option.{option_copied};
 ghost use Rattle.dl_pages.specs.Paged.{Owns, OwnsNothing, KeepsOwned, IsExact};
-ghost use Rattle.dl_pages.specs.Pages.{parts, flags, empty_page, KeepsPages, AreListed};
+ghost use Rattle.dl_pages.specs.Pages.{parts, flags, empty_page, page_at, KeepsPages, AreNested, AreShared};
 
 use crate::page::{PAGE, Page};
+use crate::pages::Pages;
 use dl_base::Memory;
 use std::alloc::Global;
 use std::marker::Model;
 
-/// A list whose elements stand in pages of 256. A page is the list's own and may be written, or it is shared with other lists. Whoever drops
-/// the last list that has a page frees it.
+/// A list whose elements stand in pages of 64, and whose pages stand in sections of 64. A page or a section is the list's own and may be
+/// written, or it is shared with other lists. Whoever drops the last list that has it frees it.
 pub struct Paged<T> {
-    // all pages before the last element's are full, and those behind it are empty and owned
-    pages: Vec<Page<T>>,
-    // the numbers of the owned pages, so that a freeze need not look at the others
-    owned: Vec<usize>,
+    // all pages before the last element's are full, and those behind it are empty; an owned page stands in an owned section
+    pages: Pages<Page<T>>,
     len: usize,
     spare: usize,
 }
@@ -24,7 +24,6 @@ impl<T: Drop> Drop for Paged<T> {
     fn drop(self) {
         let Paged {
             pages: _,
-            owned: _,
             len: _,
             spare: _,
         } = self;
@@ -36,11 +35,12 @@ impl<T> Model for Paged<T> {
 
     ghost Value = { PagedItems T };
 
-    ghost use Rattle.dl_pages.specs.KeptPaged.{paged_of, IsKeptPaged};
+    ghost use Rattle.dl_pages.specs.KeptPages.{paged_of};
+    ghost use Rattle.dl_pages.specs.KeptPaged.{IsKeptPaged};
 
     ghost view = { λ p. paged_of p.pages.items p.spare };
 
-    ghost invariant = { λ p. IsKeptPaged p.pages.items p.owned.items p.len p.spare };
+    ghost invariant = { λ p. IsKeptPaged p.pages.items p.pages.owned p.len p.spare };
 }
 
 impl<T> Paged<T> {
@@ -51,8 +51,7 @@ impl<T> Paged<T> {
         ensures spare { result.spare ≡ 0 }
     {
         Paged {
-            pages: Vec::new(alloc),
-            owned: Vec::new(alloc),
+            pages: Pages::make(alloc),
             len: 0,
             spare: 0,
         }
@@ -65,8 +64,7 @@ impl<T> Paged<T> {
         ensures owned { self.new.owned ≡ self.old.owned ++ true ∷ [] }
         ensures spare { self.new.spare + 1 ≡ self.old.spare }
     {
-        let page = &mut self.pages[self.len / PAGE];
-        page.push(value);
+        self.pages.push_in(self.len / PAGE, value);
         self.len += 1;
         self.spare -= 1;
     }
@@ -80,8 +78,7 @@ impl<T> Paged<T> {
         ensures owned { self.new.owned ≡ self.old.owned }
         ensures spare { self.new.spare ≡ self.old.spare }
     {
-        let page = &mut self.pages[at / PAGE];
-        page.put(at % PAGE, value)
+        self.pages.put_in(at / PAGE, at % PAGE, value)
     }
 
     /// How many elements there are. Each place is owned or not.
@@ -95,36 +92,49 @@ impl<T> Paged<T> {
 
     /// Where its memory comes from.
     pub fn alloc(&self) -> Global {
-        *self.pages.allocator()
+        self.pages.alloc()
     }
 
-    /// The element at a place, by two look-ups: its page, and the element in it.
+    /// The element at a place, by three look-ups: its section, its page, and the element in it.
     // not inlined, as `put`: who reads a list that may be flat keeps that way short
     #[inline(never)]
     pub fn get(&self, at: usize) -> &T
         requires { at < length self.now.items }
         ensures { result.now ≡ get_or self.now.items at result.now }
     {
-        let page = &self.pages[at / PAGE];
+        let page = self.pages.get(at / PAGE);
         page.at(at % PAGE)
+    }
+
+    /// The element at a place, or none past the end.
+    #[inline(never)]
+    pub fn find(&self, at: usize) -> Option<&T>
+        ensures { option_copied result ≡ slice_get self.now.items at }
+    {
+        if at < self.len() {
+            Some(self.get(at))
+        } else {
+            None
+        }
     }
 }
 
 impl<T: Drop> Paged<T> {
-    /// Nothing is owned from now on, so that the list can be shared. It makes one `Arc` for each page that was owned, looks at no other
-    /// page, and copies no element. `Memory` where there is none for them: the elements stay, and less may be owned.
+    /// Nothing is owned from now on, so that the list can be shared. It makes one `Arc` for each page and each section that was owned, and
+    /// copies no element. It takes one look at each section, and at the pages of those that were owned. `Memory` where there is none for the
+    /// `Arc`s: the elements stay, and less may be owned.
     pub fn freeze(&mut self) -> Result<(), Memory>
         ensures items { self.new.items ≡ self.old.items }
         ensures shared { OnOk result (OwnsNothing self.new) }
         ensures spare { self.new.spare ≡ 0 }
     {
         self.spare = 0;
-        self.pages.truncate(self.len.div_ceil(PAGE));
-        freeze_pages(&mut self.pages, &mut self.owned)
+        freeze_pages(&mut self.pages)?;
+        self.pages.freeze()
     }
 
-    /// An equal list, which shares all pages: one pointer is copied for each, and no element. `Memory` where there is none for the
-    /// pointers, or where a page's count is full.
+    /// An equal list, which shares all sections: one pointer is copied for each, and no element. Where a section is owned, as after a
+    /// freeze that failed, its pages are shared one by one. `Memory` where there is none for the pointers, or where a count is full.
     pub fn share(&self) -> Result<Paged<T>, Memory>
         requires { OwnsNothing self.now }
         ensures items { IfOk result (λ list. list.items ≡ self.now.items) }
@@ -132,16 +142,9 @@ impl<T: Drop> Paged<T> {
         ensures shared { IfOk result OwnsNothing }
         ensures spare { IfOk result (λ list. list.spare ≡ 0) }
     {
-        let used = self.len.div_ceil(PAGE);
-        let alloc = *self.pages.allocator();
-        let mut pages = Vec::with_capacity(alloc, used)?;
-        for number in 0..used {
-            let page = &self.pages[number];
-            pages.push(page.share()?)?;
-        }
+        let pages = share_pages(&self.pages, self.len.div_ceil(PAGE))?;
         Ok(Paged {
             pages,
-            owned: Vec::new(alloc),
             len: self.len,
             spare: 0,
         })
@@ -149,12 +152,12 @@ impl<T: Drop> Paged<T> {
 }
 
 impl<T: Clone> Paged<T> {
-    /// An equal list. All pages are shared where none is owned, and copied else. `Memory` where there is none for that.
+    /// An equal list. All sections are shared where none is owned, and all elements are copied else. `Memory` where there is none for that.
     pub fn copy(&self) -> Result<Paged<T>, Memory>
         requires { IsExact T.is_clone }
         ensures { IfOk result (λ list. list.items ≡ self.now.items) }
     {
-        if self.owned.len() == 0 {
+        if self.pages.next_owned(0) == self.pages.len() {
             self.share()
         } else {
             copied(self)
@@ -177,15 +180,14 @@ impl<T: Clone> Paged<T> {
             None => return Err(Memory),
             Some(all) => all.div_ceil(PAGE),
         };
-        // The last page is owned when there is nothing else that can fail, so that an error leaves what is owned.
-        append_pages(&mut self.pages, &mut self.owned, wanted)?;
-        own_last(&mut self.pages, &mut self.owned, self.len)?;
-        self.spare = self.pages.len().saturating_mul(PAGE) - self.len;
+        append_pages(&mut self.pages, wanted)?;
+        own_pages(&mut self.pages, self.len / PAGE, wanted)?;
+        self.spare = wanted.saturating_mul(PAGE) - self.len;
         Ok(())
     }
 
-    /// The place may be written from now on. The one page that it is in is copied where it is shared, and no other. `Memory` where there
-    /// is none for the copy: the elements stay, and what is owned.
+    /// The place may be written from now on. The one page that it is in is copied where it is shared, and so are the pointers of
+    /// the one section that it is in. `Memory` where there is none for the copies: the elements stay, and what is owned.
     pub fn own(&mut self, at: usize) -> Result<(), Memory>
         requires exact { IsExact T.is_clone }
         requires within { at < length self.old.items }
@@ -195,7 +197,7 @@ impl<T: Clone> Paged<T> {
         ensures here { OnOk result (Owns self.new at) }
         ensures spare { OnOk result (self.old.spare ≤ self.new.spare) }
     {
-        own_page(&mut self.pages, &mut self.owned, at / PAGE)
+        own_page(&mut self.pages, at / PAGE)
     }
 }
 
@@ -212,97 +214,92 @@ fn copied<T: Clone>(list: &Paged<T>) -> Result<Paged<T>, Memory>
     Ok(copy)
 }
 
-/// A page is owned from now on, and the others stay. `Memory` where there is none for a copy of it: all pages stay.
-fn own_page<T: Clone>(
-    pages: &mut Vec<Page<T>>,
-    owned: &mut Vec<usize>,
-    number: usize,
-) -> Result<(), Memory>
+/// A page is owned from now on, in a section that is, and the others stay. `Memory` where there is none for the copies: all pages stay.
+fn own_page<T: Clone>(pages: &mut Pages<Page<T>>, number: usize) -> Result<(), Memory>
     requires exact { IsExact T.is_clone }
     requires within { number < length pages.old.items }
-    requires listed { AreListed pages.old.items owned.old.items }
+    requires nested { AreNested pages.old.items pages.old.owned }
     ensures kept { KeepsPages pages.old.items pages.new.items }
-    ensures listed { AreListed pages.new.items owned.new.items }
+    ensures nested { AreNested pages.new.items pages.new.owned }
     ensures owned { OnOk result (get_or (flags pages.new.items) number true ≡ true) }
+    ensures others { (k : ℕ) → k ≢ number → get_or (flags pages.new.items) k false ≡ get_or (flags pages.old.items) k false }
     ensures same { OnErr result (pages.new.items ≡ pages.old.items) }
 {
-    if pages[number].is_owned() {
-        return Ok(());
-    }
-    owned.reserve(1)?;
-    let alloc = *pages.allocator();
-    let page = &mut pages[number];
-    page.own(alloc)?;
-    owned.push_reserved(number);
+    pages.own(number)?;
+    pages.own_in(number)?;
     Ok(())
 }
 
-/// The page of the last element is owned from now on, if it has room for more. `Memory` leaves all pages as they were.
-fn own_last<T: Clone>(
-    pages: &mut Vec<Page<T>>,
-    owned: &mut Vec<usize>,
-    len: usize,
+/// The pages from one on are owned from now on, up to a number. `Memory` where there is none for the copies: then some are, but the first
+/// is as it was.
+fn own_pages<T: Clone>(
+    pages: &mut Pages<Page<T>>,
+    first: usize,
+    wanted: usize,
 ) -> Result<(), Memory>
     requires exact { IsExact T.is_clone }
-    requires within { len ≤ 256 * length pages.old.items }
-    requires listed { AreListed pages.old.items owned.old.items }
+    requires within { wanted ≤ length pages.old.items }
+    requires nested { AreNested pages.old.items pages.old.owned }
     ensures kept { KeepsPages pages.old.items pages.new.items }
-    ensures listed { AreListed pages.new.items owned.new.items }
-    ensures owned { OnOk result ((k : ℕ) → 256 * k < len → len < 256 * (k + 1) → get_or (flags pages.new.items) k true ≡ true) }
-    ensures same { OnErr result (pages.new.items ≡ pages.old.items) }
+    ensures nested { AreNested pages.new.items pages.new.owned }
+    ensures owned { OnOk result ((k : ℕ) → first ≤ k → k < wanted → get_or (flags pages.new.items) k true ≡ true) }
+    ensures same { OnErr result ((k : ℕ) → k ≤ first → get_or (flags pages.new.items) k false ≡ get_or (flags pages.old.items) k false) }
 {
-    if len % PAGE == 0 {
-        return Ok(());
+    // The first has elements. It comes when there is nothing else that can fail, so that an error leaves what is owned.
+    let mut number = wanted;
+    while number > first {
+        number -= 1;
+        own_page(pages, number)?;
     }
-    own_page(pages, owned, len / PAGE)
+    Ok(())
 }
 
 /// Appends pages without elements until there are so many.
-fn append_pages<T: Drop>(
-    pages: &mut Vec<Page<T>>,
-    owned: &mut Vec<usize>,
-    wanted: usize,
-) -> Result<(), Memory>
-    requires { AreListed pages.old.items owned.old.items }
+fn append_pages<T: Clone>(pages: &mut Pages<Page<T>>, wanted: usize) -> Result<(), Memory>
+    requires exact { IsExact T.is_clone }
+    requires nested { AreNested pages.old.items pages.old.owned }
     ensures appended { (m : ℕ) × (pages.new.items ≡ pages.old.items ++ replicate m empty_page) }
-    ensures listed { AreListed pages.new.items owned.new.items }
+    ensures nested { AreNested pages.new.items pages.new.owned }
     ensures enough { OnOk result (wanted ≤ length pages.new.items) }
 {
     while pages.len() < wanted {
-        owned.reserve(1)?;
-        let page = Page::make(*pages.allocator())?;
-        let number = pages.len();
-        pages.push(page)?;
-        owned.push_reserved(number);
+        pages.widen()?;
+        let page = Page::make(pages.alloc())?;
+        pages.push(page);
     }
     Ok(())
 }
 
-/// All pages are shared from now on. `Memory` where there is none for one of them: then some are.
-fn freeze_pages<T: Drop>(pages: &mut Vec<Page<T>>, owned: &mut Vec<usize>) -> Result<(), Memory>
-    requires { AreListed pages.old.items owned.old.items }
+/// All pages are shared from now on, and the sections stay as they are. `Memory` where there is none for one of them: then some are.
+fn freeze_pages<T: Drop>(pages: &mut Pages<Page<T>>) -> Result<(), Memory>
+    requires { AreNested pages.old.items pages.old.owned }
     ensures items { parts pages.new.items ≡ parts pages.old.items }
-    ensures listed { AreListed pages.new.items owned.new.items }
-    ensures none { OnOk result (owned.new.items ≡ []) }
+    ensures nested { AreNested pages.new.items pages.new.owned }
+    ensures shared { OnOk result (AreShared pages.new.items) }
 {
-    while owned.len() > 0 {
-        let number = owned[owned.len() - 1];
-        freeze_page(pages, number)?;
-        owned.take_last();
+    let mut number = pages.next_owned(0);
+    while number < pages.len() {
+        pages.freeze_in(number)?;
+        number = pages.next_owned(number + 1);
     }
     Ok(())
 }
 
-/// The page of a number, if there is one, is shared from now on.
-fn freeze_page<T: Drop>(pages: &mut Vec<Page<T>>, number: usize) -> Result<(), Memory>
-    ensures items { parts pages.new.items ≡ parts pages.old.items }
-    ensures others { (k : ℕ) → get_or (flags pages.new.items) k false ≡ true → get_or (flags pages.old.items) k false ≡ true }
-    ensures shared { OnOk result (get_or (flags pages.new.items) number false ≡ false) }
+/// The first pages, so many at least, all of which are shared. `Memory` where there is none for the pointers, or where a count is full.
+fn share_pages<T: Drop>(pages: &Pages<Page<T>>, used: usize) -> Result<Pages<Page<T>>, Memory>
+    requires within { used ≤ length pages.now.items }
+    requires nested { AreNested pages.now.items pages.now.owned }
+    requires shared { (k : ℕ) → k < used → (page_at pages.now.items k).owned ≡ false }
+    ensures items { IfOk result (λ copy. (n : ℕ) × (used ≤ n) × (copy.items ≡ take n pages.now.items)) }
+    ensures shared { IfOk result (λ copy. AreShared copy.items) }
 {
-    if number >= pages.len() {
-        return Ok(());
+    if pages.next_owned(0) == pages.len() {
+        return pages.share();
     }
-    let alloc = *pages.allocator();
-    let page = &mut pages[number];
-    page.freeze(alloc)
+    let mut copy = Pages::with_room(pages.alloc(), used)?;
+    for number in 0..used {
+        let page = pages.get(number);
+        copy.push(page.share()?);
+    }
+    Ok(copy)
 }

@@ -1,6 +1,7 @@
 //! A list that is flat until it is written after a freeze.
 
-ghost use Rattle.std.specs.Prelude.{◌≡◌, ℕ, ◌+◌, ◌-◌, ◌<◌, ◌≤◌, [], ◌∷◌, ◌++◌, true, IfOk, OnOk, OnErr, length, get_or, set, replicate};
+ghost use Rattle.std.specs.Prelude.{◌≡◌, ℕ, ◌+◌, ◌-◌, ◌<◌, ◌≤◌, [], ◌∷◌, ◌++◌, true, IfOk, OnOk, OnErr, length, get_or, set, replicate, slice_get};
+ghost use Rattle.std.specs.Option.{option_copied};
 ghost use Rattle.dl_pages.specs.Paged.{Owns, OwnsNothing, KeepsOwned, IsExact};
 
 use crate::paged::Paged;
@@ -102,6 +103,18 @@ impl<T> Table<T> {
             Form::Flat(items) => &items[at],
             Form::Whole(items) => &items[at],
             Form::Paged(pages) => pages.get(at),
+        }
+    }
+
+    /// The element at a place, or none past the end.
+    #[inline(always)]
+    pub fn get(&self, at: usize) -> Option<&T>
+        ensures { option_copied result ≡ slice_get self.now.items at }
+    {
+        match &self.form {
+            Form::Flat(items) => items.get(at),
+            Form::Whole(items) => items.get(at),
+            Form::Paged(pages) => pages.find(at),
         }
     }
 

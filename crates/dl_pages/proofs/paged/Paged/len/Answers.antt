@@ -4,6 +4,6 @@ use Rattle.dl_pages.proofs.paged.Paged.len.Goals as goal
 
 pub returns : goal.returns
 returns g c = record {
-  items = sym (length_is c.self.inside.pages.items c.self.inside.owned.items c.self.inside.len c.self.inside.spare c.args.self.now c.self.invariant c.self.view_is);
-  owned = sym (owned_is c.self.inside.pages.items c.self.inside.owned.items c.self.inside.len c.self.inside.spare c.args.self.now c.self.invariant c.self.view_is);
+  items = sym (length_is c.self.inside.pages.items c.self.inside.len c.self.inside.spare c.args.self.now c.self.invariant.kept c.self.view_is);
+  owned = sym (owned_is c.self.inside.pages.items c.self.inside.len c.self.inside.spare c.args.self.now c.self.invariant.kept c.self.view_is);
 }

@@ -1,51 +1,32 @@
-use Rattle.std.proofs.Common.{sym, ◌∙◌, arith}
-use Rattle.dl_pages.proofs.PagedLemmas.{owned_within, in_pages, in_page, item_here, owned_here, kept_put, items_put, owned_put}
+use Rattle.std.proofs.Common.{◌∙◌}
+use Rattle.dl_pages.proofs.NestedLemmas.{put_place, put_page, put_within, put_value, items_put, owned_put, kept_put}
 use Rattle.dl_pages.proofs.paged.Paged.put.Goals as goal
 
-pub index_mut-page-requires : goal.index_mut-page-requires
-index_mut-page-requires g c =
-    let within = owned_within c.self.inside.pages.items c.self.inside.owned.items c.self.inside.len c.self.inside.spare c.args.self.now c.self.invariant c.self.view_is c.args.at c.requires in
-    omega (arith, c.self.inside.pages.ok.0, in_pages c.self.inside.pages.items c.self.inside.owned.items c.self.inside.len c.self.inside.spare c.args.self.now c.self.invariant c.self.view_is c.args.at within)
+pub put_in-requires-clause-owned : goal.put_in-requires-clause-owned
+put_in-requires-clause-owned g c = put_place c.self.inside.pages.items c.self.inside.pages.owned c.self.inside.len c.self.inside.spare c.args.self.now c.self.invariant c.self.view_is c.args.at c.requires
 
-pub put-requires-clause-owned : goal.put-requires-clause-owned
-put-requires-clause-owned g c =
-    let within = owned_within c.self.inside.pages.items c.self.inside.owned.items c.self.inside.len c.self.inside.spare c.args.self.now c.self.invariant c.self.view_is c.args.at c.requires in
-    sym (owned_here c.self.inside.pages.items c.self.inside.owned.items c.self.inside.len c.self.inside.spare c.args.self.now c.self.invariant c.self.view_is c.args.at within
-    c.index_mut-page.result.now c.index_mut-page.ensures.value) ∙ c.requires
+pub put_in-requires-clause-page : goal.put_in-requires-clause-page
+put_in-requires-clause-page g c = put_page c.self.inside.pages.items c.self.inside.pages.owned c.self.inside.len c.self.inside.spare c.args.self.now c.self.invariant c.self.view_is c.args.at c.requires
 
-pub put-requires-clause-within : goal.put-requires-clause-within
-put-requires-clause-within g c =
-    let within = owned_within c.self.inside.pages.items c.self.inside.owned.items c.self.inside.len c.self.inside.spare c.args.self.now c.self.invariant c.self.view_is c.args.at c.requires in
-    in_page c.self.inside.pages.items c.self.inside.owned.items c.self.inside.len c.self.inside.spare c.args.self.now c.self.invariant c.self.view_is c.args.at within
-    c.index_mut-page.result.now c.index_mut-page.ensures.value
+pub put_in-requires-clause-place : goal.put_in-requires-clause-place
+put_in-requires-clause-place g c = put_within c.self.inside.pages.items c.self.inside.pages.owned c.self.inside.len c.self.inside.spare c.args.self.now c.self.invariant c.self.view_is c.args.at c.requires
 
 pub invariant_of-self : goal.invariant_of-self
 invariant_of-self g c =
-    let within = owned_within c.self.inside.pages.items c.self.inside.owned.items c.self.inside.len c.self.inside.spare c.args.self.now c.self.invariant c.self.view_is c.args.at c.requires in
-    let was = sym (owned_here c.self.inside.pages.items c.self.inside.owned.items c.self.inside.len c.self.inside.spare c.args.self.now c.self.invariant c.self.view_is c.args.at within
-    c.index_mut-page.result.now c.index_mut-page.ensures.value) ∙ c.requires in
-    kept_put c.self.inside.pages.items c.self.inside.owned.items c.self.inside.len c.self.inside.spare c.args.self.now c.self.invariant c.self.view_is c.args.at within
-    c.index_mut-page.result.now c.index_mut-page.ensures.value c.put.new.self c.args.value c.put.ensures.items (c.put.ensures.owned ∙ sym was)
+    kept_put c.self.inside.pages.items c.self.inside.pages.owned c.self.inside.len c.self.inside.spare c.args.self.now c.self.invariant c.self.view_is c.args.at c.requires
+    c.put_in.new.self.items c.args.value c.put_in.ensures.items c.put_in.new.self.owned c.put_in.ensures.owned
 
 pub returns-clause-value : goal.returns-clause-value
 returns-clause-value g c =
-    let within = owned_within c.self.inside.pages.items c.self.inside.owned.items c.self.inside.len c.self.inside.spare c.args.self.now c.self.invariant c.self.view_is c.args.at c.requires in
-    c.put.ensures.value
-    ∙ item_here c.self.inside.pages.items c.self.inside.owned.items c.self.inside.len c.self.inside.spare c.args.self.now c.self.invariant c.self.view_is c.args.at within
-    c.index_mut-page.result.now c.index_mut-page.ensures.value c.put.result
+    c.put_in.ensures.value
+    ∙ put_value c.self.inside.pages.items c.self.inside.pages.owned c.self.inside.len c.self.inside.spare c.args.self.now c.self.invariant c.self.view_is c.args.at c.requires c.put_in.result
 
 pub returns-clause-items : goal.returns-clause-items
 returns-clause-items g c =
-    let within = owned_within c.self.inside.pages.items c.self.inside.owned.items c.self.inside.len c.self.inside.spare c.args.self.now c.self.invariant c.self.view_is c.args.at c.requires in
-    let was = sym (owned_here c.self.inside.pages.items c.self.inside.owned.items c.self.inside.len c.self.inside.spare c.args.self.now c.self.invariant c.self.view_is c.args.at within
-    c.index_mut-page.result.now c.index_mut-page.ensures.value) ∙ c.requires in
-    items_put c.self.inside.pages.items c.self.inside.owned.items c.self.inside.len c.self.inside.spare c.args.self.now c.self.invariant c.self.view_is c.args.at within
-    c.index_mut-page.result.now c.index_mut-page.ensures.value c.put.new.self c.args.value c.put.ensures.items (c.put.ensures.owned ∙ sym was)
+    items_put c.self.inside.pages.items c.self.inside.pages.owned c.self.inside.len c.self.inside.spare c.args.self.now c.self.invariant c.self.view_is c.args.at c.requires
+    c.put_in.new.self.items c.args.value c.put_in.ensures.items
 
 pub returns-clause-owned : goal.returns-clause-owned
 returns-clause-owned g c =
-    let within = owned_within c.self.inside.pages.items c.self.inside.owned.items c.self.inside.len c.self.inside.spare c.args.self.now c.self.invariant c.self.view_is c.args.at c.requires in
-    let was = sym (owned_here c.self.inside.pages.items c.self.inside.owned.items c.self.inside.len c.self.inside.spare c.args.self.now c.self.invariant c.self.view_is c.args.at within
-    c.index_mut-page.result.now c.index_mut-page.ensures.value) ∙ c.requires in
-    owned_put c.self.inside.pages.items c.self.inside.owned.items c.self.inside.len c.self.inside.spare c.args.self.now c.self.invariant c.self.view_is c.args.at within
-    c.index_mut-page.result.now c.index_mut-page.ensures.value c.put.new.self c.args.value c.put.ensures.items (c.put.ensures.owned ∙ sym was)
+    owned_put c.self.inside.pages.items c.self.inside.pages.owned c.self.inside.len c.self.inside.spare c.args.self.now c.self.invariant c.self.view_is c.args.at c.requires
+    c.put_in.new.self.items c.args.value c.put_in.ensures.items

@@ -1,5 +1,5 @@
 use Rattle.std.proofs.Common.{◌≡◌, take}
-use Rattle.dl_pages.proofs.paged.Paged.share.Given as goal
+use Rattle.dl_pages.proofs.pages.Pages.share.Given as goal
 
 abbrev pub invariant-loop-number : goal.invariant-loop-number
 invariant-loop-number g l = l.pages.items ≡ take l.number l.self-inside.pages.items
