@@ -58,6 +58,7 @@ impl<T> Paged<T> {
     }
 
     /// An element at the end, in room that is there. It is owned. Takes no memory.
+    #[inline(never)]
     pub fn push(&mut self, value: T)
         requires { 0 < self.old.spare }
         ensures items { self.new.items ≡ self.old.items ++ value ∷ [] }
@@ -108,7 +109,7 @@ impl<T> Paged<T> {
 
     /// The element at a place, or none past the end.
     #[inline(never)]
-    pub fn find(&self, at: usize) -> Option<&T>
+    pub(crate) fn find(&self, at: usize) -> Option<&T>
         ensures { option_copied result ≡ slice_get self.now.items at }
     {
         if at < self.len() {

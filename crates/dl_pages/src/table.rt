@@ -12,7 +12,7 @@ use std::mem;
 use std::sync::Arc;
 
 /// A list that stands flat as long as it can: while nobody shares it, and while those who share it only read. Whoever writes it after a
-/// freeze copies it into pages first, once; from then on it is shared page by page.
+/// freeze copies it into pages first, once; from then on it is shared by its sections of 64 pages.
 pub struct Table<T> {
     form: Form<T>,
 }
@@ -148,8 +148,8 @@ impl<T> Table<T> {
 }
 
 impl<T: Drop> Table<T> {
-    /// Nothing is owned from now on, so that the list can be shared. It costs one `Arc`, or one for each page that was owned; no element is
-    /// copied. `Memory` where there is none for that: the elements stay, and less may be owned.
+    /// Nothing is owned from now on, so that the list can be shared. It costs one `Arc`, or one for each page and each section that was
+    /// owned; no element is copied. `Memory` where there is none for that: the elements stay, and less may be owned.
     pub fn freeze(&mut self) -> Result<(), Memory>
         ensures items { self.new.items ≡ self.old.items }
         ensures shared { OnOk result (OwnsNothing self.new) }
@@ -172,7 +172,7 @@ impl<T: Drop> Table<T> {
         }
     }
 
-    /// An equal list, which shares all elements: one pointer is copied, or one for each page. `Memory` where there is none for the
+    /// An equal list, which shares all elements: one pointer is copied, or one for each section. `Memory` where there is none for the
     /// pointers, or where a count is full.
     pub fn share(&self) -> Result<Table<T>, Memory>
         requires { OwnsNothing self.now }
@@ -217,8 +217,8 @@ impl<T: Clone> Table<T> {
         Ok(())
     }
 
-    /// An equal list. What is frozen is shared, at the cost of one pointer or of one for each page; a list of which some is owned is copied
-    /// whole. `Memory` where there is none for that.
+    /// An equal list. What is frozen is shared, at the cost of one pointer or of one for each section; a list of which some is owned is
+    /// copied whole. `Memory` where there is none for that.
     pub fn copy(&self) -> Result<Table<T>, Memory>
         requires { IsExact T.is_clone }
         ensures { IfOk result (λ list. list.items ≡ self.now.items) }
@@ -236,8 +236,8 @@ impl<T: Clone> Table<T> {
         }
     }
 
-    /// The place may be written from now on. The one page that it is in is copied where it is shared, and no other; a whole list that is shared
-    /// is copied into pages, once. `Memory` where there is none for the copy: the elements stay, and what is owned.
+    /// The place may be written from now on. The one page that it is in is copied where it is shared, and so are the pointers of its section; a
+    /// whole list that is shared is copied into pages, once. `Memory` where there is none for the copy: the elements stay, and what is owned.
     pub fn own(&mut self, at: usize) -> Result<(), Memory>
         requires exact { IsExact T.is_clone }
         requires within { at < length self.old.items }
